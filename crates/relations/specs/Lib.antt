@@ -1,0 +1,5 @@
+pub mod Sum
+pub mod Fault
+pub mod Meaning
+pub mod Script
+pub mod Told
