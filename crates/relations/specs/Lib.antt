@@ -3,3 +3,4 @@ pub mod Fault
 pub mod Meaning
 pub mod Script
 pub mod Told
+pub mod Terms

@@ -53,3 +53,8 @@ restored m (Err e) n = (Err e, m)
 
 abbrev pub whole : {A E : Type 0} → Step (Result A E) → Step (Result A E)
 whole s m = restored m (s m .0) (s m .1)
+
+-- a result with another answer in place of its own
+abbrev pub over : {A B E : Type 0} → (A → B) → Result A E → Result B E
+over f (Ok x) = Ok (f x)
+over f (Err e) = Err e

@@ -2,6 +2,7 @@ mod fault;
 mod gadget;
 mod system;
 mod term;
+mod terms;
 
 pub use fault::GadgetFault;
 pub use fault::GadgetFromSystem;
@@ -13,3 +14,8 @@ pub use system::System;
 pub use term::Mark;
 pub use term::Term;
 pub use term::Variable;
+pub use terms::just;
+pub use terms::less;
+pub use terms::minus_one;
+pub use terms::one_less;
+pub use terms::times;
