@@ -74,7 +74,10 @@ fn gate_value<F: Field>(gate: Gate, x: Option<F>, y: Option<F>) -> Option<F>
 
 impl LooseBit {
     /// A new witness that no row forces yet.
-    pub fn new_witness_without_booleanity_check<F: Field, S: System<F>>(cs: &mut S, value: Option<bool>) -> Result<LooseBit, GadgetFault>
+    pub fn new_witness_without_booleanity_check<F: Field, S: System<F>>(
+        cs: &mut S,
+        value: Option<bool>,
+    ) -> Result<LooseBit, GadgetFault>
         requires { ⌜ S·System .sound (now cs) ⌝ }
         ensures still { λ _. ⌜ S·System .sound (now (cs .exit)) ⌝ }
         ensures does { λ r. ⌜ Ran (run (F·Field .modulus) (loose-script witness value)) (S·System .meaning (now (cs .entry))) r (S·System .meaning (now (cs .exit))) ⌝ }
@@ -96,7 +99,13 @@ impl LooseBit {
     }
 
     /// Moves the bit into the row that forces it. Where the row is refused the bit is spent all the same.
-    fn forced<F: Field, S: System<F>>(self, cs: &mut S, a: &[Term], b: &[Term], c: &[Term]) -> Result<AllocatedBool, GadgetFault>
+    fn forced<F: Field, S: System<F>>(
+        self,
+        cs: &mut S,
+        a: &[Term],
+        b: &[Term],
+        c: &[Term],
+    ) -> Result<AllocatedBool, GadgetFault>
         requires { ⌜ S·System .sound (now cs) ⌝ }
         ensures still { λ _. ⌜ S·System .sound (now (cs .exit)) ⌝ }
         ensures does { λ r. ⌜ Ran (run (F·Field .modulus) (row (now (a .entry)) (now (b .entry)) (now (c .entry)) (answer (allocated (self .variable))))) (S·System .meaning (now (cs .entry))) r (S·System .meaning (now (cs .exit))) ⌝ }
@@ -108,7 +117,10 @@ impl LooseBit {
     }
 
     /// Moves the bit into the row (1 - v) * v = 0.
-    pub fn enforce_boolean<F: Field, S: System<F>>(self, cs: &mut S) -> Result<AllocatedBool, GadgetFault>
+    pub fn enforce_boolean<F: Field, S: System<F>>(
+        self,
+        cs: &mut S,
+    ) -> Result<AllocatedBool, GadgetFault>
         requires { ⌜ S·System .sound (now cs) ⌝ }
         ensures still { λ _. ⌜ S·System .sound (now (cs .exit)) ⌝ }
         ensures does { λ r. ⌜ Ran (run (F·Field .modulus) (booleanity (F·Field .modulus) (self .variable))) (S·System .meaning (now (cs .entry))) r (S·System .meaning (now (cs .exit))) ⌝ }
@@ -128,7 +140,10 @@ impl AllocatedBool {
     }
 
     /// A new input with the row that forces it.
-    pub fn input_steps<F: Field, S: System<F>>(cs: &mut S, value: Option<bool>) -> Result<AllocatedBool, GadgetFault>
+    pub fn input_steps<F: Field, S: System<F>>(
+        cs: &mut S,
+        value: Option<bool>,
+    ) -> Result<AllocatedBool, GadgetFault>
         requires { ⌜ S·System .sound (now cs) ⌝ }
         ensures still { λ _. ⌜ S·System .sound (now (cs .exit)) ⌝ }
         ensures does { λ r. ⌜ Ran (run (F·Field .modulus) (new-bit (F·Field .modulus) input value)) (S·System .meaning (now (cs .entry))) r (S·System .meaning (now (cs .exit))) ⌝ }
@@ -139,7 +154,10 @@ impl AllocatedBool {
     }
 
     /// A new witness with the row that forces it.
-    pub fn witness_steps<F: Field, S: System<F>>(cs: &mut S, value: Option<bool>) -> Result<AllocatedBool, GadgetFault>
+    pub fn witness_steps<F: Field, S: System<F>>(
+        cs: &mut S,
+        value: Option<bool>,
+    ) -> Result<AllocatedBool, GadgetFault>
         requires { ⌜ S·System .sound (now cs) ⌝ }
         ensures still { λ _. ⌜ S·System .sound (now (cs .exit)) ⌝ }
         ensures does { λ r. ⌜ Ran (run (F·Field .modulus) (new-bit (F·Field .modulus) witness value)) (S·System .meaning (now (cs .entry))) r (S·System .meaning (now (cs .exit))) ⌝ }
@@ -161,7 +179,12 @@ impl AllocatedBool {
     }
 
     /// A gate on two variables: a witness for its output, moved into the row that forces it.
-    pub fn gate_steps<F: Field, S: System<F>>(self, gate: Gate, other: AllocatedBool, cs: &mut S) -> Result<AllocatedBool, GadgetFault>
+    pub fn gate_steps<F: Field, S: System<F>>(
+        self,
+        gate: Gate,
+        other: AllocatedBool,
+        cs: &mut S,
+    ) -> Result<AllocatedBool, GadgetFault>
         requires { ⌜ S·System .sound (now cs) ⌝ }
         ensures still { λ _. ⌜ S·System .sound (now (cs .exit)) ⌝ }
         ensures does { λ r. ⌜ Ran (run (F·Field .modulus) (gate-script gate (F·Field .modulus) self other)) (S·System .meaning (now (cs .entry))) r (S·System .meaning (now (cs .exit))) ⌝ }
@@ -175,7 +198,12 @@ impl AllocatedBool {
         match gate {
             Gate::And => output.forced(cs, &just(a), &just(b), &just(w)),
             Gate::Or => output.forced(cs, &one_less::<F>(a), &one_less::<F>(b), &one_less::<F>(w)),
-            Gate::Xor => output.forced(cs, &[times(2, a)], &just(b), &[times(1, a), times(1, b), times(minus_one::<F>(), w)]),
+            Gate::Xor => output.forced(
+                cs,
+                &[times(2, a)],
+                &just(b),
+                &[times(1, a), times(1, b), times(minus_one::<F>(), w)],
+            ),
         }
     }
 }

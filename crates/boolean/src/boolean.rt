@@ -24,7 +24,11 @@ fn as_var(bit: Result<AllocatedBool, GadgetFault>) -> Result<Boolean, GadgetFaul
 
 impl Boolean {
     /// The steps of an allocation: a constant asks nothing of the system.
-    pub fn alloc_steps<F: Field, S: System<F>>(cs: &mut S, value: Option<bool>, mode: AllocationMode) -> Result<Boolean, GadgetFault>
+    pub fn alloc_steps<F: Field, S: System<F>>(
+        cs: &mut S,
+        value: Option<bool>,
+        mode: AllocationMode,
+    ) -> Result<Boolean, GadgetFault>
         requires { ⌜ S·System .sound (now cs) ⌝ }
         ensures still { λ _. ⌜ S·System .sound (now (cs .exit)) ⌝ }
         ensures does { λ r. ⌜ Ran (run (F·Field .modulus) (alloc-script (F·Field .modulus) mode value)) (S·System .meaning (now (cs .entry))) r (S·System .meaning (now (cs .exit))) ⌝ }
@@ -54,7 +58,11 @@ impl Boolean {
     }
 
     /// The steps of `and`: constants fold.
-    pub fn and_steps<F: Field, S: System<F>>(self, other: Boolean, cs: &mut S) -> Result<Boolean, GadgetFault>
+    pub fn and_steps<F: Field, S: System<F>>(
+        self,
+        other: Boolean,
+        cs: &mut S,
+    ) -> Result<Boolean, GadgetFault>
         requires { ⌜ S·System .sound (now cs) ⌝ }
         ensures still { λ _. ⌜ S·System .sound (now (cs .exit)) ⌝ }
         ensures does { λ r. ⌜ Ran (run (F·Field .modulus) (and-script (F·Field .modulus) self other)) (S·System .meaning (now (cs .entry))) r (S·System .meaning (now (cs .exit))) ⌝ }
@@ -70,7 +78,11 @@ impl Boolean {
     }
 
     /// The steps of `or`: constants fold.
-    pub fn or_steps<F: Field, S: System<F>>(self, other: Boolean, cs: &mut S) -> Result<Boolean, GadgetFault>
+    pub fn or_steps<F: Field, S: System<F>>(
+        self,
+        other: Boolean,
+        cs: &mut S,
+    ) -> Result<Boolean, GadgetFault>
         requires { ⌜ S·System .sound (now cs) ⌝ }
         ensures still { λ _. ⌜ S·System .sound (now (cs .exit)) ⌝ }
         ensures does { λ r. ⌜ Ran (run (F·Field .modulus) (or-script (F·Field .modulus) self other)) (S·System .meaning (now (cs .entry))) r (S·System .meaning (now (cs .exit))) ⌝ }
@@ -86,7 +98,11 @@ impl Boolean {
     }
 
     /// The steps of `xor`: constants fold, and one beside a variable is its `not`.
-    pub fn xor_steps<F: Field, S: System<F>>(self, other: Boolean, cs: &mut S) -> Result<Boolean, GadgetFault>
+    pub fn xor_steps<F: Field, S: System<F>>(
+        self,
+        other: Boolean,
+        cs: &mut S,
+    ) -> Result<Boolean, GadgetFault>
         requires { ⌜ S·System .sound (now cs) ⌝ }
         ensures still { λ _. ⌜ S·System .sound (now (cs .exit)) ⌝ }
         ensures does { λ r. ⌜ Ran (run (F·Field .modulus) (xor-script (F·Field .modulus) self other)) (S·System .meaning (now (cs .entry))) r (S·System .meaning (now (cs .exit))) ⌝ }

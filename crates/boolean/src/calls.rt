@@ -33,7 +33,11 @@ pub impl<F: Field, S: System<F>> Gadget<F, S> for BooleanCall as BooleanGadget {
 pub impl<F: Field, S: System<F>> AllocVar<bool, F, S> for Boolean as BooleanAlloc {
     ghost allocation = { alloc-script };
 
-    fn new_variable(cs: &mut S, value: Option<bool>, mode: AllocationMode) -> Result<Boolean, GadgetFault>
+    fn new_variable(
+        cs: &mut S,
+        value: Option<bool>,
+        mode: AllocationMode,
+    ) -> Result<Boolean, GadgetFault>
         requires { ⌜ S·System .sound (now cs) ⌝ }
         ensures still { λ _. ⌜ S·System .sound (now (cs .exit)) ⌝ }
         ensures does { λ r. ⌜ Ran (whole (run (F·Field .modulus) (alloc-script (F·Field .modulus) mode value))) (S·System .meaning (now (cs .entry))) r (S·System .meaning (now (cs .exit))) ⌝ }
@@ -57,7 +61,11 @@ impl Boolean {
     }
 
     /// Whether both bits are one; a refusal leaves the system as it was.
-    pub fn and<F: Field, S: System<F>>(self, other: Boolean, cs: &mut S) -> Result<Boolean, GadgetFault>
+    pub fn and<F: Field, S: System<F>>(
+        self,
+        other: Boolean,
+        cs: &mut S,
+    ) -> Result<Boolean, GadgetFault>
         requires { ⌜ S·System .sound (now cs) ⌝ }
         ensures still { λ _. ⌜ S·System .sound (now (cs .exit)) ⌝ }
         ensures does { λ r. ⌜ Ran (whole (run (F·Field .modulus) (and-script (F·Field .modulus) self other))) (S·System .meaning (now (cs .entry))) r (S·System .meaning (now (cs .exit))) ⌝ }
@@ -68,7 +76,11 @@ impl Boolean {
     }
 
     /// Whether one of the bits is one; a refusal leaves the system as it was.
-    pub fn or<F: Field, S: System<F>>(self, other: Boolean, cs: &mut S) -> Result<Boolean, GadgetFault>
+    pub fn or<F: Field, S: System<F>>(
+        self,
+        other: Boolean,
+        cs: &mut S,
+    ) -> Result<Boolean, GadgetFault>
         requires { ⌜ S·System .sound (now cs) ⌝ }
         ensures still { λ _. ⌜ S·System .sound (now (cs .exit)) ⌝ }
         ensures does { λ r. ⌜ Ran (whole (run (F·Field .modulus) (or-script (F·Field .modulus) self other))) (S·System .meaning (now (cs .entry))) r (S·System .meaning (now (cs .exit))) ⌝ }
@@ -79,7 +91,11 @@ impl Boolean {
     }
 
     /// Whether the bits differ; a refusal leaves the system as it was.
-    pub fn xor<F: Field, S: System<F>>(self, other: Boolean, cs: &mut S) -> Result<Boolean, GadgetFault>
+    pub fn xor<F: Field, S: System<F>>(
+        self,
+        other: Boolean,
+        cs: &mut S,
+    ) -> Result<Boolean, GadgetFault>
         requires { ⌜ S·System .sound (now cs) ⌝ }
         ensures still { λ _. ⌜ S·System .sound (now (cs .exit)) ⌝ }
         ensures does { λ r. ⌜ Ran (whole (run (F·Field .modulus) (xor-script (F·Field .modulus) self other))) (S·System .meaning (now (cs .entry))) r (S·System .meaning (now (cs .exit))) ⌝ }

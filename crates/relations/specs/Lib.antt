@@ -4,3 +4,4 @@ pub mod Meaning
 pub mod Script
 pub mod Told
 pub mod Terms
+pub mod Written

@@ -16,7 +16,10 @@ pub fn minus_one<F: Field>() -> u32
 pub fn times(coefficient: u32, variable: Variable) -> Term
     ensures { λ r. ⌜ r ≡ times-of coefficient variable ⌝ }
 {
-    Term { coefficient, variable }
+    Term {
+        coefficient,
+        variable,
+    }
 }
 
 /// The sum of a variable alone.

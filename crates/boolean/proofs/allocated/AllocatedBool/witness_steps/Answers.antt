@@ -4,6 +4,7 @@ use Rattle.boolean.proofs.allocated.AllocatedBool.witness_steps.Needs as need
 pub returns : need.returns
 returns g c =
     record {
-        still = search needs;
-        does = search needs;
-        adds = λ l u h. c .enforce-boolean .ensures .adds l u (c .in-Continue-variable .ensures tt .adds l u h) }
+      still = search needs;
+      does = search needs;
+      adds = λ l u h. c .enforce-boolean .ensures .adds l u (c .in-Continue-variable .ensures tt .adds l u h);
+    }

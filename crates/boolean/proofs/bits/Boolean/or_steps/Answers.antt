@@ -8,6 +8,7 @@ pub returns-in-Var-Var : need.returns-in-Var-Var
 returns-in-Var-Var g c =
     let p = g .F·Field .modulus in
     record {
-        still = search needs;
-        does = var-runs p (gate-script Or p (c .in-Var-Var .a) (c .in-Var-Var .b)) (or-script p (c .args .self) (c .args .other)) _ _ _ _ (λ i. or-script p (c .in-Var-Var .is-0 i) (c .in-Var-Var .is-1 i)) (c .gate-steps .ensures .does) (c .as-var .ensures);
-        adds = c .gate-steps .ensures .adds }
+      still = search needs;
+      does = var-runs p (gate-script Or p (c .in-Var-Var .a) (c .in-Var-Var .b)) (or-script p (c .args .self) (c .args .other)) _ _ _ _ (λ i. or-script p (c .in-Var-Var .is-0 i) (c .in-Var-Var .is-1 i)) (c .gate-steps .ensures .does) (c .as-var .ensures);
+      adds = c .gate-steps .ensures .adds;
+    }

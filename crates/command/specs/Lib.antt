@@ -1,0 +1,4 @@
+pub mod Refusals
+pub mod Tape
+pub mod Decide
+pub mod Answers

@@ -1,0 +1,7 @@
+mod book;
+mod circuit;
+mod execute;
+
+pub use book::Book;
+pub use book::BookKinds;
+pub use circuit::Circuit;
