@@ -16,25 +16,8 @@ use Rattle.relations.specs.declared.fault.SystemFault.{SystemFault}
 use Rattle.relations.specs.declared.fault.SystemFault.the-variants.{UnknownVariable, MissingValue, TermsFull}
 use Rattle.relations.specs.declared.fault.GadgetFault.{GadgetFault}
 use Rattle.relations.specs.Sum.{Row, row-of, sum-of}
-use Rattle.relations.specs.Meaning.{Meaning, Combo, Step, Side, input, witness, ask, has, kept, new-variable, keeping, with-new, full, listed, room, new-lc, with-combo, combo-of, enforce, with-row, rows-full, has-all, has-row, used, row-use, places}
+use Rattle.relations.specs.Meaning.{Meaning, Combo, Step, Side, input, witness, ask, has, kept, new-variable, keeping, with-new, full, listed, room, new-lc, with-combo, combo-of, enforce, with-row, rows-full, has-all, has-row, used, row-use, places, Grows}
 use Rattle.relations.specs.Script.{Script, answer, refuse, allocate, combine, row, next, asking, run}
-
--- n is m with more at the ends of its lists
-pub record Grows (m n : Meaning) : Type 0 where
-  pub inputs : List (Option ℕ)
-  pub witnesses : List (Option ℕ)
-  pub combos : List Combo
-  pub rows : List Row
-  pub inputs-are : n .inputs ≡ m .inputs ++ inputs
-  pub witnesses-are : n .witnesses ≡ m .witnesses ++ witnesses
-  pub combos-are : n .combos ≡ m .combos ++ combos
-  pub rows-are : n .rows ≡ m .rows ++ rows
-  pub keeps-is : n .keeps ≡ m .keeps
-  pub input-room-is : n .input-room ≡ m .input-room
-  pub witness-room-is : n .witness-room ≡ m .witness-room
-  pub term-room-is : n .term-room ≡ m .term-room
-  pub row-room-is : n .row-room ≡ m .row-room
-  pub capped-is : n .capped ≡ m .capped
 
 pub grows-refl : (m : Meaning) → Grows m m
 grows-refl m = record {

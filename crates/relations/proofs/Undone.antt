@@ -15,7 +15,8 @@ use Rattle.relations.specs.declared.fault.SystemFault.{SystemFault}
 use Rattle.relations.specs.declared.fault.GadgetFault.{GadgetFault}
 use Rattle.relations.specs.Meaning.{Meaning, Combo, places, combos-within, rows-within, cut-to, may-cut, rewind, Sane, Shorter, Begins, Stored, cut}
 use Rattle.relations.specs.Script.{Script, run, restored, whole}
-use Rattle.relations.proofs.Growth.{Grows, growing-run}
+use Rattle.relations.specs.Meaning.{Grows}
+use Rattle.relations.proofs.Growth.{growing-run}
 
 back : {A : Type 0} (xs ys zs : List A) → ys ≡ xs ++ zs → take (length xs) ys ≡ xs
 back xs ys zs e = ap (take (length xs)) e ∙ take-at xs zs (length xs) refl

@@ -276,3 +276,20 @@ Cuts (Err e) n s t = t ≡ s
 pub record Sane (m : Meaning) : Type 0 where
   pub combos : combos-within (length (m .inputs)) (length (m .witnesses)) (places (m .combos)) (m .combos) ≡ true
   pub rows : rows-within (length (m .inputs)) (length (m .witnesses)) (places (m .combos)) (m .rows) ≡ true
+
+-- n is m with more at the ends of its lists, and the same rooms
+pub record Grows (m n : Meaning) : Type 0 where
+  pub inputs : List (Option ℕ)
+  pub witnesses : List (Option ℕ)
+  pub combos : List Combo
+  pub rows : List Row
+  pub inputs-are : n .inputs ≡ m .inputs ++ inputs
+  pub witnesses-are : n .witnesses ≡ m .witnesses ++ witnesses
+  pub combos-are : n .combos ≡ m .combos ++ combos
+  pub rows-are : n .rows ≡ m .rows ++ rows
+  pub keeps-is : n .keeps ≡ m .keeps
+  pub input-room-is : n .input-room ≡ m .input-room
+  pub witness-room-is : n .witness-room ≡ m .witness-room
+  pub term-room-is : n .term-room ≡ m .term-room
+  pub row-room-is : n .row-room ≡ m .row-room
+  pub capped-is : n .capped ≡ m .capped

@@ -1,0 +1,10 @@
+pub mod Frame
+pub mod Heads
+pub mod Trace
+pub mod Link
+pub mod Own
+pub mod Grown
+pub mod Kept
+pub mod Values
+pub mod Theorem
+pub mod Settle

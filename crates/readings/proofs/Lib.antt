@@ -1,0 +1,4 @@
+pub mod Rows
+pub mod BitLaws
+pub mod CommandLaws
+pub mod Bills
