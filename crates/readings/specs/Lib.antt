@@ -1,2 +1,4 @@
 pub mod Readings
 pub mod Decision
+pub mod State
+pub mod Runs

@@ -23,7 +23,7 @@ use Rattle.command.specs.declared.fault.TapeFault.{TapeFault}
 use Rattle.command.specs.declared.fault.TapeFault.the-variants.{Gadget, Operand, BookFull}
 use Rattle.command.specs.Decide.{fits, answers, checked}
 use Rattle.command.specs.Answers.{kinds, kind-of, action, action-script, command-script}
-use Rattle.tape.specs.State.{State, state, filed, performed, executed}
+use Rattle.readings.specs.State.{State, state, filed, performed, executed}
 
 -- an accepted check
 pub passed : (r : Result (List Kind) TapeFault) → _≡_ {A = Result (Unit {0}) TapeFault} (Ok tt) (over (λ _. tt) r) → (ks : List Kind) × (r ≡ Ok ks)

@@ -1,7 +1,8 @@
 mod book;
 mod circuit;
-mod execute;
+mod executing;
 
 pub use book::Book;
 pub use book::BookKinds;
 pub use circuit::Circuit;
+pub use executing::execute;

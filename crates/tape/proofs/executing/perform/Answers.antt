@@ -6,7 +6,7 @@ use Rattle.boolean.specs.Gates.{call-script}
 use Rattle.command.specs.declared.answers.Answer.the-variants.{Bit}
 use Rattle.command.specs.Answers.{action-script}
 use Rattle.tape.proofs.Executes.{leaves-over}
-use Rattle.tape.proofs.execute.perform.Needs as need
+use Rattle.tape.proofs.executing.perform.Needs as need
 
 pub returns-in-Bits : need.returns-in-Bits
 returns-in-Bits g c =

@@ -14,9 +14,9 @@ use Rattle.command.specs.declared.answers.Action.{Action}
 use Rattle.command.specs.Decide.{checked}
 use Rattle.command.specs.Answers.{kinds, action, action-script}
 use Rattle.tape.specs.Book.{held-by, places-of}
-use Rattle.tape.specs.State.{state}
+use Rattle.readings.specs.State.{state}
 use Rattle.tape.proofs.Executes.{has-place, accepted, refused}
-use Rattle.tape.proofs.execute.execute_steps.Needs as need
+use Rattle.tape.proofs.executing.execute_steps.Needs as need
 
 pub returns-in-Break-answer : need.returns-in-Break-answer
 returns-in-Break-answer g c =

@@ -5,7 +5,10 @@ ghost use Rattle.relations.specs.Script.{Script, run, whole, over};
 ghost use Rattle.command.specs.declared.answers.Answer.the-variants.{Bit as in-bit};
 ghost use Rattle.command.specs.Answers.{action as action-of, action-script};
 ghost use Rattle.tape.specs.Book.{held-by};
-ghost use Rattle.tape.specs.State.{executed, state-of};
+ghost use mathlib.Core.List.{List};
+ghost use Rattle.readings.specs.State.{executed};
+ghost use Rattle.readings.specs.Runs.{History, Running, Stepped, Unchanged};
+ghost use Rattle.tape.specs.State.{state-of};
 use crate::book::Book;
 use crate::book::BookKinds;
 use crate::circuit::Circuit;
@@ -85,4 +88,18 @@ fn execute_steps<F: Field, S: System<F>>(
     let answer = perform(&mut circuit.system, action)?;
     circuit.book.push(answer);
     Ok(())
+}
+
+/// One command: accepted or refused as the rules decide. A refusal leaves the system, its words and the book as they were; and where a
+/// run has come to this circuit, the command is the run's next, with all that runs promise.
+pub fn execute<F: Field, S: System<F>>(circuit: &mut Circuit<S>, command: Command) -> Result<(), TapeFault>
+    requires { ⌜ S·System .sound (now circuit .system) ⌝ }
+    ensures still { λ _. ⌜ S·System .sound (now (circuit .exit) .system) ⌝ }
+    ensures does { λ r. ⌜ executed (F·Field .modulus) command (state-of (S·System .meaning) (now (circuit .entry))) ≡ (r, state-of (S·System .meaning) (now (circuit .exit))) ⌝ }
+    ensures adds { λ _. ⌜ Adds (S·System .meaning (now (circuit .entry) .system)) (S·System .stored (now (circuit .entry) .system)) (S·System .meaning (now (circuit .exit) .system)) (S·System .stored (now (circuit .exit) .system)) ⌝ }
+    ensures leaves { λ r. ⌜ Leaves r (S·System .stored (now (circuit .entry) .system)) (S·System .stored (now (circuit .exit) .system)) ⌝ }
+    ensures unchanged { λ r. ⌜ Unchanged r (state-of (S·System .meaning) (now (circuit .entry))) (state-of (S·System .meaning) (now (circuit .exit))) ⌝ }
+    ensures runs { λ r. ⌜ ((h : History) → Running (F·Field .modulus) h (state-of (S·System .meaning) (now (circuit .entry))) → Stepped (F·Field .modulus) h command (state-of (S·System .meaning) (now (circuit .entry))) (state-of (S·System .meaning) (now (circuit .exit))) r) ⌝ }
+{
+    execute_steps(circuit, command)
 }
