@@ -4,11 +4,19 @@ use crate::commands::Kind;
 use boolean::AllocationMode;
 use boolean::Boolean;
 use boolean::BooleanCall;
+use relations::Refusal;
 
 /// An answer of the book.
 #[derive(Clone, Copy)]
 pub enum Answer {
     Bit(Boolean),
+}
+
+/// A refused command of a run: its number, counted from 0, and the refusal.
+#[derive(Clone, Copy)]
+pub struct Refused {
+    pub command: u32,
+    pub refusal: Refusal,
 }
 
 /// What a command asks for, its operands looked up: an answer that is there already, or a call on bits.

@@ -6,6 +6,7 @@ mod fault;
 
 pub use answers::Action;
 pub use answers::Answer;
+pub use answers::Refused;
 pub use answers::mode_of;
 pub use answers::value_of;
 pub use checking::Kinds;

@@ -1,23 +1,21 @@
 -- What an accepted script leaves: what is named is there, what is answered is there, and the shape does not depend on values.
-use mathlib.Core.Path.{_≡_, refl, sym, ap, ap₂, subst, _∙_}
-use mathlib.Core.Bool.{Bool, true, false}
+use mathlib.Core.Path.{_≡_, refl, sym, ap, subst, _∙_}
 use mathlib.Core.List.{List, [], _∷_, _++_}
 use Prim.Native.Nat.{ℕ, _+_, _<_}
 use native.Mathlib.Omega.{arith}
 use lib.ListN.{length, length-append}
 use Rattle.std.specs.declared.option.Option.{Option}
-use Rattle.std.specs.declared.result.Result.{Result}
-use Rattle.std.specs.declared.result.Result.the-variants.{Ok, Err}
+use Rattle.std.specs.declared.result.Result.the-variants.{Ok}
 use Rattle.relations.specs.declared.term.Variable.{Variable}
 use Rattle.relations.specs.declared.term.Variable.the-variants.{Input, Witness, Combination}
 use Rattle.relations.specs.declared.term.Term.{Term}
 use Rattle.relations.specs.Sum.{Row, sum-of, row-of}
 use Rattle.relations.specs.Meaning.{Meaning, Combo, Side, input, witness, places, has, next-of, with-new, with-combo, combo-of, with-row}
 use Rattle.relations.specs.Script.{Script, answer, refuse, allocate, combine, row, run}
-use Rattle.laws.specs.Law.{There, Wider, TermsThere, Names}
+use Rattle.laws.specs.Law.{There, TermsThere, Names}
 use Rattle.laws.specs.Runs.{Bounded, Proper}
 use Rattle.laws.proofs.Heads.{Alike, alike-append, places-alike}
-use Rattle.laws.proofs.Trace.{Allocated, allocated, Combined, combined, Enforced, enforced, refused}
+use Rattle.laws.proofs.Trace.{allocated, combined, enforced, refused}
 use Rattle.laws.proofs.Link.{sum-bounded, proper-new, proper-combo, proper-row, wider-new, wider-combo, new-there, combo-there}
 
 -- ---- what is named is there
@@ -60,13 +58,16 @@ pub record Shape (m n : Meaning) : Type 0 where
   pub combos : Alike (m .combos) (n .combos)
   pub rows : m .rows ≡ n .rows
 
+-- the next names are the same
 same-next : (d : Side) (m n : Meaning) → Shape m n → next-of d m ≡ next-of d n
 same-next input m n s = ap Input (s .inputs)
 same-next witness m n s = ap Witness (s .witnesses)
 
+-- lists of one length have one length with one more
 longer : (xs ys : List (Option ℕ)) (x y : Option ℕ) → length xs ≡ length ys → length (xs ++ (x ∷ [])) ≡ length (ys ++ (y ∷ []))
 longer xs ys x y e = omega (arith, length-append xs (x ∷ []), length-append ys (y ∷ []))
 
+-- one more input or witness in both
 shape-new : (d : Side) (o q : Option ℕ) (m n : Meaning) → Shape m n → Shape (with-new d o m) (with-new d q n)
 shape-new input o q m n s = record { inputs = longer (m .inputs) (n .inputs) o q (s .inputs); witnesses = s .witnesses; combos = s .combos; rows = s .rows }
 shape-new witness o q m n s = record { inputs = s .inputs; witnesses = longer (m .witnesses) (n .witnesses) o q (s .witnesses); combos = s .combos; rows = s .rows }

@@ -8,3 +8,4 @@ pub mod Kept
 pub mod Values
 pub mod Theorem
 pub mod Settle
+pub mod Order

@@ -1,38 +1,40 @@
 -- The values that a system keeps: they stay, they are right, and they meet the rows of gadgets that compute them.
-use mathlib.Core.Path.{_≡_, refl, sym, ap, ap₂, subst, _∙_}
+use mathlib.Core.Path.{_≡_, refl, sym, ap, subst, _∙_}
 use mathlib.Core.Bool.{Bool, true, false, cond}
-use mathlib.Core.Logic.{_⊎_, inl, inr, ⊎-elim}
+use mathlib.Core.Logic.{⊎-elim}
 use mathlib.Core.List.{List, [], _∷_, _++_, map}
-use Prim.Native.Nat.{ℕ, zero, suc, _+_, _-_, _*_, _%_, _<_, _≤_}
+use Prim.Native.Nat.{ℕ, zero, suc, _+_, _-_, _<_}
 use native.Mathlib.Omega.{arith}
 use lib.Dec.{eqb, ltb}
 use lib.ListN.{length, getD, List·getD-append}
 use borrow.Author.Tests.{ltb-true, clash}
 use Rattle.std.specs.declared.option.Option.{Option}
 use Rattle.std.specs.declared.option.Option.the-variants.{None, Some}
-use Rattle.std.specs.declared.result.Result.{Result}
-use Rattle.std.specs.declared.result.Result.the-variants.{Ok, Err}
+use Rattle.std.specs.declared.result.Result.the-variants.{Ok}
 use Rattle.relations.specs.declared.term.Variable.{Variable}
 use Rattle.relations.specs.declared.term.Variable.the-variants.{One, Zero, Input, Witness, Combination}
 use Rattle.relations.specs.declared.term.Term.{Term}
-use Rattle.relations.specs.Sum.{Sum, Row, sum-of, row-of}
-use Rattle.relations.specs.Meaning.{Meaning, Combo, Side, input, witness, places, is-head, number, kept-at, known, has, assigned, kept, next-of, with-new, with-combo, combo-of, with-row}
+use Rattle.relations.specs.Sum.{Row, sum-of, row-of}
+use Rattle.relations.specs.Meaning.{Meaning, Combo, Side, input, witness, places, is-head, number, kept-at, has, assigned, kept, next-of, with-new, with-combo, combo-of, with-row}
 use Rattle.relations.specs.Script.{Script, answer, refuse, allocate, combine, row, run}
 use Rattle.relations.specs.Meaning.{Grows}
-use Rattle.laws.specs.Law.{Val, total, Low, Given, Plan, Plays, Goes, TermsThere, Below, Tidy}
-use Rattle.laws.specs.Runs.{Met, Sums, Agree, Same, Bounded, Proper, Solves, Right}
+use Rattle.laws.specs.Law.{Val, Low, Given, Goes, TermsThere, Below, Tidy}
+use Rattle.laws.specs.Runs.{Sums, Same, Bounded, Proper, Solves, Right}
 use Rattle.laws.proofs.Heads.{kept-append, kept-new, head-cases}
-use Rattle.laws.proofs.Trace.{Keeps, Allocated, allocated, Combined, combined, Enforced, enforced, refused}
+use Rattle.laws.proofs.Trace.{Keeps, allocated, combined, enforced, refused}
 use Rattle.laws.proofs.Link.{sum-bounded, sum-total, sums-same, sums-snoc, solves-same, solves-new, solves-combo, solves-row, proper-new, proper-combo, proper-row, wider-new, wider-combo, new-there, combo-there, total-row}
 
 -- ---- what is kept stays
+-- an old element behind which more was added
 getD-old : {A : Type 0} (xs ys : List A) (d : A) (k : ℕ) → ltb k (length xs) ≡ true → getD (xs ++ ys) k d ≡ getD xs k d
 getD-old xs ys d k h = List·getD-append xs ys d k (ltb-true k (length xs) h)
 
+-- the newest element
 getD-new : {A : Type 0} (xs : List A) (y d : A) → getD (xs ++ (y ∷ [])) (length xs) d ≡ y
 getD-new [] y d = refl
 getD-new (x ∷ xs) y d = getD-new xs y d
 
+-- in a system that grew
 pub assigned-grows : (m n : Meaning) → Grows m n → Same m (assigned m) (assigned n)
 assigned-grows m n g One k = refl
 assigned-grows m n g Zero k = refl
@@ -40,6 +42,7 @@ assigned-grows m n g (Input i) k = ap (λ (l : List (Option ℕ)). number (getD 
 assigned-grows m n g (Witness i) k = ap (λ (l : List (Option ℕ)). number (getD l i None)) (g .witnesses-are) ∙ ap number (getD-old (m .witnesses) (g .witnesses) None i k)
 assigned-grows m n g (Combination c) k = ap (kept-at c) (g .combos-are) ∙ kept-append c (m .combos) (g .combos) k
 
+-- with one more input or witness
 pub assigned-new : (d : Side) (o : Option ℕ) (m : Meaning) → Same m (assigned m) (assigned (with-new d o m))
 assigned-new input o m One k = refl
 assigned-new input o m Zero k = refl
@@ -52,6 +55,7 @@ assigned-new witness o m (Input i) k = refl
 assigned-new witness o m (Witness i) k = ap number (getD-old (m .witnesses) (o ∷ []) None i k)
 assigned-new witness o m (Combination c) k = refl
 
+-- with one more combination
 pub assigned-combo : (x : Combo) (m : Meaning) → Same m (assigned m) (assigned (with-combo x m))
 assigned-combo x m One k = refl
 assigned-combo x m Zero k = refl
@@ -59,6 +63,7 @@ assigned-combo x m (Input i) k = refl
 assigned-combo x m (Witness i) k = refl
 assigned-combo x m (Combination c) k = kept-append c (m .combos) (x ∷ []) k
 
+-- with one more row
 pub assigned-row : (r : Row) (m : Meaning) → assigned m ≡ assigned (with-row r m)
 assigned-row r m = λ i v. go v i
   where
@@ -70,22 +75,27 @@ assigned-row r m = λ i v. go v i
     go (Combination c) = refl
 
 -- ---- the newest
+-- the newest input or witness has its value
 at-new : (d : Side) (o : Option ℕ) (m : Meaning) → assigned (with-new d o m) (next-of d m) ≡ number o
 at-new input o m = ap number (getD-new (m .inputs) o None)
 at-new witness o m = ap number (getD-new (m .witnesses) o None)
 
+-- the newest combination has the value of its sum
 at-combo : (p : ℕ) (ts : List Term) (m : Meaning) → m .keeps ≡ true → assigned (with-combo (combo-of p ts m) m) (Combination (places (m .combos) + sum-of p ts .size)) ≡ sum-of p ts .value (assigned m)
 at-combo p ts m keeps = kept-new (m .combos) (combo-of p ts m) ∙ ap (λ (b : Bool). number (cond b (Some (sum-of p ts .value (assigned m))) None)) keeps
 
+-- a system goes on keeping values
 pub keeps-new : (d : Side) (o : Option ℕ) (m : Meaning) → with-new d o m .keeps ≡ m .keeps
 keeps-new input o m = refl
 keeps-new witness o m = refl
 
 -- ---- below p
+-- a kept value is below p
 number-low : (p : ℕ) → 1 < p → (o : Option ℕ) → Below p o → number o < p
 number-low p above None b = omega arith
 number-low p above (Some x) b = b
 
+-- so are all with one more
 numbers-low : (p : ℕ) → 1 < p → (xs : List (Option ℕ)) (o : Option ℕ) → Below p o → ((k : ℕ) → number (getD xs k None) < p) → (k : ℕ) → number (getD (xs ++ (o ∷ [])) k None) < p
 numbers-low p above [] o b h zero = number-low p above o b
 numbers-low p above [] o b h (suc k) = omega arith
@@ -102,16 +112,18 @@ kept-none c (x ∷ cs) e = go (eqb c (x .sum .size)) (ltb c (x .sum .size)) e (k
     go false true e f = refl
     go false false e f = f e
 
+-- so are those of combinations with one more
 pub kept-low : (p : ℕ) → 1 < p → (cs : List Combo) (x : Combo) → ((c : ℕ) → kept-at c cs < p) → number (x .kept) < p → (c : ℕ) → kept-at c (cs ++ (x ∷ [])) < p
 kept-low p above cs x h l c = go (is-head c (cs ++ (x ∷ []))) refl
   where
     go : (b : Bool) → is-head c (cs ++ (x ∷ [])) ≡ b → kept-at c (cs ++ (x ∷ [])) < p
     go true e = ⊎-elim
-      (λ k. subst (λ (y : ℕ). y < p) (sym (kept-append c cs (x ∷ []) k)) (h c))
-      (λ q. subst (λ (y : ℕ). y < p) (sym (ap (λ (n : ℕ). kept-at n (cs ++ (x ∷ []))) q ∙ kept-new cs x)) l)
-      (head-cases c cs x e)
+        (λ k. subst (λ (y : ℕ). y < p) (sym (kept-append c cs (x ∷ []) k)) (h c))
+        (λ q. subst (λ (y : ℕ). y < p) (sym (ap (λ (n : ℕ). kept-at n (cs ++ (x ∷ []))) q ∙ kept-new cs x)) l)
+        (head-cases c cs x e)
     go false e = subst (λ (y : ℕ). y < p) (sym (kept-none c (cs ++ (x ∷ [])) e)) (omega arith)
 
+-- so are all numbers with one more input or witness
 low-new : (p : ℕ) → 1 < p → (d : Side) (o : Option ℕ) (m : Meaning) → Below p o → Low p (assigned m) → Low p (assigned (with-new d o m))
 low-new p above input o m b l = record { one = refl; zero = refl; low = go }
   where
@@ -130,6 +142,7 @@ low-new p above witness o m b l = record { one = refl; zero = refl; low = go }
     go (Witness k) = numbers-low p above (m .witnesses) o b (λ k. l .low (Witness k)) k
     go (Combination c) = l .low (Combination c)
 
+-- and with one more combination
 low-combo : (p : ℕ) → 1 < p → (x : Combo) (m : Meaning) → number (x .kept) < p → Low p (assigned m) → Low p (assigned (with-combo x m))
 low-combo p above x m b l = record { one = refl; zero = refl; low = go }
   where
@@ -140,6 +153,7 @@ low-combo p above x m b l = record { one = refl; zero = refl; low = go }
     go (Witness k) = l .low (Witness k)
     go (Combination c) = kept-low p above (m .combos) x (λ c. l .low (Combination c)) b c
 
+-- and with one that terms make
 combo-low : (p : ℕ) → 1 < p → (ts : List Term) (m : Meaning) → Bounded p (has m) (sum-of p ts) → Low p (assigned m) → Low p (assigned (with-combo (combo-of p ts m) m))
 combo-low p above ts m b l = low-combo p above (combo-of p ts m) m (pick (m .keeps)) l
   where
@@ -148,6 +162,7 @@ combo-low p above ts m b l = low-combo p above (combo-of p ts m) m (pick (m .kee
     pick false = omega arith
 
 -- ---- the kept values are right
+-- they stay right with one more input or witness
 right-new : (p : ℕ) → 1 < p → (d : Side) (o : Option ℕ) (m : Meaning) → Below p o → Proper p m → Right p m → Right p (with-new d o m)
 right-new p above input o m b pr r = record {
   low = low-new p above input o m b (r .low);
@@ -158,23 +173,26 @@ right-new p above witness o m b pr r = record {
   sums = sums-same p (length (m .inputs)) (length (m .witnesses)) (assigned m) (assigned (with-new witness o m)) [] (m .combos) (assigned-new witness o m) (pr .formed) (r .sums);
 }
 
+-- and with one more combination
 right-combo : (p : ℕ) → 1 < p → (ts : List Term) (m : Meaning) → m .keeps ≡ true → Bounded p (has m) (sum-of p ts) → Proper p m → Right p m → Right p (with-combo (combo-of p ts m) m)
 right-combo p above ts m keeps b pr r = record {
   low = combo-low p above ts m b (r .low);
   sums = sums-snoc σ [] (m .combos) (combo-of p ts m)
-    (sums-same p (length (m .inputs)) (length (m .witnesses)) (assigned m) σ [] (m .combos) (assigned-combo (combo-of p ts m) m) (pr .formed) (r .sums))
-    (at-combo p ts m keeps ∙ sym (b .local (assigned m) σ (assigned-combo (combo-of p ts m) m)));
+      (sums-same p (length (m .inputs)) (length (m .witnesses)) (assigned m) σ [] (m .combos) (assigned-combo (combo-of p ts m) m) (pr .formed) (r .sums))
+      (at-combo p ts m keeps ∙ sym (b .local (assigned m) σ (assigned-combo (combo-of p ts m) m)));
 }
   where
     σ : Val
     σ = assigned (with-combo (combo-of p ts m) m)
 
+-- and with one more row
 right-row : (p : ℕ) (q : Row) (m : Meaning) → Right p m → Right p (with-row q m)
 right-row p q m r = record {
   low = subst (Low p) (assigned-row q m) (r .low);
   sums = subst (λ (ρ : Val). Sums ρ [] (m .combos)) (assigned-row q m) (r .sums);
 }
 
+-- and in an accepted run
 pub right-run : (p : ℕ) → 1 < p → {A : Type 0} (s : Script A) (m n : Meaning) (x : A) → run p s m ≡ (Ok x, n) → Tidy p s → m .keeps ≡ true → Proper p m → Right p m → Right p n
 right-run p above (answer y) m n x e t keeps pr r = subst (Right p) (ap (λ q. q .1) e) r
 right-run p above (refuse f) m n x e t keeps pr r = absurd (refused f m n x e)
@@ -196,12 +214,14 @@ right-run p above (row a b c s) m n x e t keeps pr r =
     right-run p above s (with-row (row-of p a b c) m) n x (q .rest) t keeps (proper-row p (row-of p a b c) m (bound a (q .there-a), bound b (q .there-b), bound c (q .there-c)) pr) (right-row p (row-of p a b c) m r)
 
 -- ---- and they meet the rows that were added
+-- the kept values solve a system, and are as Q says
 pub record Owned (p : ℕ) (n : Meaning) (Q : Val → Type 0) : Type 0 where
   pub solves : Solves p n (assigned n)
   pub says : Q (assigned n)
 
+-- where a script goes by what it computes, the kept values solve the system at its exit
 pub own-run : (p : ℕ) → 1 < p → {A : Type 0} (s : Script A) (m n : Meaning) (x : A) (Q : Val → A → Type 0)
-  → run p s m ≡ (Ok x, n) → m .keeps ≡ true → Proper p m → Solves p m (assigned m) → Goes true p s (Same m (assigned m)) Q → Owned p n (λ σ. Q σ x)
+    → run p s m ≡ (Ok x, n) → m .keeps ≡ true → Proper p m → Solves p m (assigned m) → Goes true p s (Same m (assigned m)) Q → Owned p n (λ σ. Q σ x)
 own-run p above (answer y) m n x Q e keeps pr sol h =
     let q : y ≡ x = cc (ap (λ r. r .0) e) in
     subst (λ (l : Meaning). Owned p l (λ σ. Q σ x)) (ap (λ r. r .1) e) (record { solves = sol; says = subst (Q (assigned m)) q (h .1 (assigned m) (sol .low) (λ v k. refl)) })

@@ -1,7 +1,8 @@
 -- What a script asks a system for, and what the system's rooms say to it.
+use mathlib.Core.Path.{_≡_}
 use mathlib.Core.Bool.{Bool, true, false, cond}
 use mathlib.Core.List.{List, [], _∷_, map}
-use Prim.Native.Nat.{ℕ, _+_}
+use Prim.Native.Nat.{ℕ, _+_, _≤_}
 use lib.Dec.{ltb, leb}
 use lib.ListN.{length}
 use Rattle.std.specs.declared.option.Option.{Option}
@@ -10,7 +11,6 @@ use Rattle.std.specs.declared.result.Result.{Result}
 use Rattle.std.specs.declared.result.Result.the-variants.{Ok, Err}
 use Rattle.relations.specs.declared.term.Variable.{Variable}
 use Rattle.relations.specs.declared.term.Variable.the-variants.{Input, Witness, Combination}
-use Rattle.relations.specs.declared.fault.SystemFault.{SystemFault}
 use Rattle.relations.specs.declared.fault.SystemFault.the-variants.{MissingValue, TermsFull}
 use Rattle.relations.specs.declared.fault.GadgetFault.{GadgetFault}
 use Rattle.relations.specs.declared.fault.GadgetFault.the-variants.{System}
@@ -34,17 +34,21 @@ pub record Next : Type 0 where
   pub witness-at : ℕ
   pub place : ℕ
 
+-- those of a system
 abbrev pub names : Meaning → Next
 names m = record { input-at = length (m .inputs); witness-at = length (m .witnesses); place = places (m .combos) }
 
+-- the name of a new input or witness
 abbrev pub named : Side → Next → Variable
 named input n = Input (n .input-at)
 named witness n = Witness (n .witness-at)
 
+-- the names past it
 abbrev pub past : Side → Next → Next
 past input n = record { input-at = n .input-at + 1; witness-at = n .witness-at; place = n .place }
 past witness n = record { input-at = n .input-at; witness-at = n .witness-at + 1; place = n .place }
 
+-- the names past a combination of k terms
 abbrev pub past-terms : ℕ → Next → Next
 past-terms k n = record { input-at = n .input-at; witness-at = n .witness-at; place = n .place + (k + 1) }
 
@@ -74,6 +78,7 @@ pub record Rooms : Type 0 where
   pub keeps : Bool
   pub capped : Bool
 
+-- those of a system
 abbrev pub rooms : Meaning → Rooms
 rooms m = record { inputs = m .input-room; witnesses = m .witness-room; terms = m .term-room; rows = m .row-room; keeps = m .keeps; capped = m .capped }
 
@@ -84,17 +89,21 @@ pub record Account : Type 0 where
   pub terms : ℕ
   pub rows : ℕ
 
+-- that of a system
 abbrev pub account : Meaning → Account
 account m = record { inputs = length (m .inputs); witnesses = length (m .witnesses); terms = used m; rows = length (m .rows) }
 
+-- the room of a side
 abbrev pub space : Side → Rooms → ℕ
 space input r = r .inputs
 space witness r = r .witnesses
 
+-- what is used of it
 abbrev pub spent : Side → Account → ℕ
 spent input a = a .inputs
 spent witness a = a .witnesses
 
+-- one more input or witness
 abbrev pub with-variable : Side → Account → Account
 with-variable input a = record { inputs = a .inputs + 1; witnesses = a .witnesses; terms = a .terms; rows = a .rows }
 with-variable witness a = record { inputs = a .inputs; witnesses = a .witnesses + 1; terms = a .terms; rows = a .rows }
@@ -115,6 +124,7 @@ pay r a (takes-combination k) = cond (leb (a .terms + (k + 1)) (r .terms)) (Ok (
 pay r a (takes-row k) = cond (leb (a .terms + k) (r .terms)) (cond (ltb (a .rows) (r .rows)) (Ok (with-terms k 1 a)) (Err (System (rows-full (r .capped))))) (Err (System TermsFull))
 pay r a (stops e) = Err e
 
+-- a refusal ends it
 abbrev pub follow : {A B : Type 0} → Result A GadgetFault → (A → Result B GadgetFault) → Result B GadgetFault
 follow (Ok a) k = k a
 follow (Err e) k = Err e
@@ -132,3 +142,45 @@ settled cs m = settle (rooms m) (account m) cs
 abbrev pub billed : {A : Type 0} → Result A GadgetFault × Meaning → Result Account GadgetFault
 billed (Ok x, n) = Ok (account n)
 billed (Err e, n) = Err e
+
+-- ---- what a bill comes to
+-- an empty account
+abbrev pub nothing-used : Account
+nothing-used = record { inputs = 0; witnesses = 0; terms = 0; rows = 0 }
+
+-- two accounts in one
+abbrev pub plus : Account → Account → Account
+plus a b = record { inputs = a .inputs + b .inputs; witnesses = a .witnesses + b .witnesses; terms = a .terms + b .terms; rows = a .rows + b .rows }
+
+-- what one charge comes to
+abbrev pub cost : Charge → Account
+cost (takes-variable d b) = with-variable d nothing-used
+cost (takes-combination k) = with-terms (k + 1) 0 nothing-used
+cost (takes-row k) = with-terms k 1 nothing-used
+cost (stops e) = nothing-used
+
+-- what all come to
+abbrev pub tally : List Charge → Account
+tally [] = nothing-used
+tally (c ∷ cs) = plus (cost c) (tally cs)
+
+-- it finds room
+pub record Within (r : Rooms) (a : Account) : Type 0 where
+  pub inputs : a .inputs ≤ r .inputs
+  pub witnesses : a .witnesses ≤ r .witnesses
+  pub terms : a .terms ≤ r .terms
+  pub rows : a .rows ≤ r .rows
+
+-- it has no refusal of the gadget's own, and where values are kept none is missing
+abbrev pub Clean : Bool → List Charge → Type 0
+Clean q [] = Unit {0}
+Clean q (takes-variable d b ∷ cs) = (lacks q b ≡ false) × Clean q cs
+Clean q (takes-combination k ∷ cs) = Clean q cs
+Clean q (takes-row k ∷ cs) = Clean q cs
+Clean q (stops e ∷ cs) = ⊥
+
+-- what a bill that was paid says: the account has grown by what it came to, which found room, and it was clean
+pub record Settled (r : Rooms) (a : Account) (cs : List Charge) (b : Account) : Type 0 where
+  pub total : b ≡ plus a (tally cs)
+  pub within : Within r (plus a (tally cs))
+  pub clean : Clean (r .keeps) cs

@@ -1,6 +1,6 @@
 -- What a history of commands says of the numbers that were answered, and what a system promises of them.
 use mathlib.Core.Path.{_≡_}
-use mathlib.Core.Bool.{Bool, true, false}
+use mathlib.Core.Bool.{true}
 use mathlib.Core.List.{List, [], _∷_, _++_, map}
 use Prim.Native.Nat.{ℕ}
 use lib.ListN.{length}
@@ -22,20 +22,22 @@ Obeys R [] xs = xs ≡ []
 Obeys R (accepted c k ∷ h) xs = (old : List ℕ) × (new : List ℕ) × (xs ≡ old ++ new) × (length new ≡ k) × R c old new × Obeys R h old
 Obeys R (refused c ∷ h) xs = Obeys R h xs
 
--- the book and the entry after a command that ended so
+-- the book after a command that ended so
 abbrev pub written : {A E : Type 0} → List A → Result (List A) E → List A
 written bk (Ok os) = bk ++ os
 written bk (Err e) = bk
 
+-- the entry of a command that ended so
 abbrev pub entered : {Cmd A E : Type 0} → Cmd → Result (List A) E → Entry Cmd
 entered c (Ok os) = accepted c (length os)
 entered c (Err e) = refused c
 
--- something holds of each answer, and of each answer with its number
+-- something holds of each answer
 abbrev pub Each : {A : Type 0} → (A → Type 0) → List A → Type 0
 Each P [] = Unit {0}
 Each P (x ∷ xs) = P x × Each P xs
 
+-- something holds of each answer with its number
 abbrev pub Along : {A : Type 0} → (A → ℕ → Type 0) → List A → List ℕ → Type 0
 Along P [] [] = Unit {0}
 Along P [] (x ∷ xs) = ⊥

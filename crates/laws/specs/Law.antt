@@ -98,6 +98,11 @@ lists of ρ (o ∷ os) = of ρ o ∷ lists of ρ os
 abbrev pub There : Type 0
 There = Variable → Bool
 
+-- the two constants are there
+pub record Constants (h : There) : Type 0 where
+  pub one : h One ≡ true
+  pub zero : h Zero ≡ true
+
 -- what is there by the first is there by the second
 abbrev pub Wider : There → There → Type 0
 Wider h k = (v : Variable) → h v ≡ true → k v ≡ true
@@ -154,3 +159,10 @@ Steady (refuse e) = Unit {0}
 Steady (allocate d vs f k) = ((ρ : Val) → present (f (map (λ v. Some (ρ v)) vs)) ≡ present (f (map (λ v. Some 0) vs))) × ((v : Variable) → Steady (k v))
 Steady (combine ts k) = (v : Variable) → Steady (k v)
 Steady (row a b c s) = Steady s
+
+-- a gadget's scripts in order: where its operands are as KI says of what is there, all that they name is there and the answers are as KO says,
+-- and the values that they give are below p, and are there or not whatever was asked for
+pub record Orderly (p : ℕ) {In Out : Type 0} (g : In → Script Out) (KI : There → In → Type 0) (KO : There → Out → Type 0) : Type 0 where
+  pub sees : (h : There) → Constants h → (i : In) → KI h i → Sees h (g i) KO
+  pub tidy : (i : In) → Tidy p (g i)
+  pub steady : (i : In) → Steady (g i)

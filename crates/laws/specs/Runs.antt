@@ -1,11 +1,10 @@
 -- What a system's rows and combinations say of the numbers of an assignment.
 use mathlib.Core.Path.{_≡_}
-use mathlib.Core.Bool.{Bool, true, false}
+use mathlib.Core.Bool.{true}
 use mathlib.Core.List.{List, [], _∷_, _++_}
 use Prim.Native.Nat.{ℕ, _+_, _*_, _%_, _<_}
 use lib.ListN.{length, getD}
-use Rattle.std.specs.declared.option.Option.{Option}
-use Rattle.std.specs.declared.option.Option.the-variants.{None, Some}
+use Rattle.std.specs.declared.option.Option.the-variants.{Some}
 use Rattle.relations.specs.declared.term.Variable.{Variable}
 use Rattle.relations.specs.declared.term.Variable.the-variants.{One, Zero, Input, Witness, Combination}
 use Rattle.relations.specs.Sum.{Sum, Row}
@@ -26,6 +25,7 @@ Sums ρ done (x ∷ xs) = (ρ (Combination (places done + x .sum .size)) ≡ x .
 abbrev pub Agree : There → Val → Val → Type 0
 Agree h ρ σ = (v : Variable) → h v ≡ true → σ v ≡ ρ v
 
+-- the same of the variables of a system
 abbrev pub Same : Meaning → Val → Val → Type 0
 Same m ρ σ = Agree (has m) ρ σ
 
@@ -68,6 +68,7 @@ pub record Promises (p : ℕ) {In Out X Y : Type 0} (at : Val → In → X) (of 
   pub own : m .keeps ≡ true → Solves p m (assigned m) → Pre (at (assigned m) i) → ((y : Y) × R (at (assigned m) i) y) → Solves p n (assigned n) × R (at (assigned m) i) (of (assigned n) o)
 
 -- ---- assignments to the inputs and witnesses of a system
+-- all numbers of a list are below p
 abbrev pub AllLow : ℕ → List ℕ → Type 0
 AllLow p [] = Unit {0}
 AllLow p (x ∷ xs) = (x < p) × AllLow p xs

@@ -1,4 +1,8 @@
-/// The number of promises that a law makes of a gadget: soundness, completeness, and the values that the gadget computes.
-pub fn promises() -> u8 {
-    3
+ghost use Rattle.laws.specs.Claims.{Bills};
+
+/// What is promised of bills stands: see `Bills`.
+pub fn stands() -> u8
+    ensures { λ _. ⌜ Bills ⌝ }
+{
+    0
 }

@@ -152,17 +152,24 @@ pub gate-computes : (g : Gate) (p : ℕ) → Prime p → 2 < p → Computes p pa
 gate-computes g p P two i x h = go (i .0) (i .1)
   where
     pure : (a b : Boolean) → Pure (gate-call g p (a, b)) → Aims g p x a b
-    pure a b u = (any-plan (gate-call g p (a, b)), λ ρ low q.
-        pure-plays true p ρ (gate-call g p (a, b)) (λ o. bit-number-of ρ o ≡ tabled g x) u
-        (subst (λ y. Must p ρ (gate-call g p (a, b)) (λ o. bit-number-of ρ o ≡ tabled g y)) q (gate-forces g p P two ρ low (a, b) (subst Bits (sym q) h))))
+    pure a b u = (
+      any-plan (gate-call g p (a, b)),
+      λ ρ low q.
+          pure-plays true p ρ (gate-call g p (a, b)) (λ o. bit-number-of ρ o ≡ tabled g x) u
+          (subst (λ y. Must p ρ (gate-call g p (a, b)) (λ o. bit-number-of ρ o ≡ tabled g y)) q (gate-forces g p P two ρ low (a, b) (subst Bits (sym q) h))),
+    )
+
     low-table : tabled g x < p
     low-table = omega (arith, bit-low (applied g (truth (x .0)) (truth (x .1))))
+
     plays : (g₁ : Gate) (ρ : Val) → Low p ρ → (a b : AllocatedBool) → pair ρ (Var a, Var b) ≡ x → (w : Variable) → ρ w ≡ tabled g₁ x → Row g₁ p (ρ One) (ρ (a .variable)) (ρ (b .variable)) (ρ w)
     plays g₁ ρ low a b q w e = gate-met g₁ p (ρ One) (ρ (a .variable)) (ρ (b .variable)) (ρ w) two (low .one) (subst (λ (y : ℕ × ℕ). y .0 ≤ 1) (sym q) (h .0)) (subst (λ (y : ℕ × ℕ). y .1 ≤ 1) (sym q) (h .1)) (e ∙ sym (ap (tabled g₁) q))
+
     both : (g₁ : Gate) (a b : AllocatedBool) → tabled g₁ x < p → Goes true p (gate-call g₁ p (Var a, Var b)) (λ ρ. pair ρ (Var a, Var b) ≡ x) (λ ρ o. bit-number-of ρ o ≡ tabled g₁ x)
     both And a b l = ((tabled And x, λ w. tt), λ ρ low q. ((l, ap (tabled And) q), λ w e. (plays And ρ low a b q w e, e)))
     both Or a b l = ((tabled Or x, λ w. tt), λ ρ low q. ((l, ap (tabled Or) q), λ w e. (plays Or ρ low a b q w e, e)))
     both Xor a b l = ((tabled Xor x, λ w. tt), λ ρ low q. ((l, ap (tabled Xor) q), λ w e. (plays Xor ρ low a b q w e, e)))
+
     go : (a b : Boolean) → Aims g p x a b
     go (Constant x) b = pure (Constant x) b (constant-pure g p x b)
     go (Var a) (Constant y) = pure (Var a) (Constant y) (beside-pure g p a y)
@@ -195,22 +202,27 @@ new-law p P {In} {X} at mode o = record {
   complete = λ i x y h r. reached i x y mode o r;
   own = λ i x h. owned i x mode o;
   obeyed = λ x h s. (number-low o, number-valued mode o);
-  solvable = λ x y h r. tt }
+  solvable = λ x y h r. tt;
+}
   where
     fresh : (ρ : Val) → Low p ρ → (v : Variable) → ((1 * ρ One + ((p - 1) * ρ v + 0)) * (1 * ρ v + 0)) % p ≡ 0 % p → ρ v ≤ 1
     fresh ρ low v r = bit-forced p (ρ One) (ρ v) P (low .one) (low .low v) r
+
     forced : (ρ : Val) → Low p ρ → (mode : AllocationMode) (o : Option Bool) → Must p ρ (alloc-script p mode o) (λ b. New mode o (bit-number-of ρ b))
     forced ρ low as-constant None = tt
     forced ρ low as-constant (Some b) = (bit-low b, refl)
     forced ρ low as-input o = λ v r. (fresh ρ low v r, tt)
     forced ρ low as-witness o = λ v r. (fresh ρ low v r, tt)
+
     met : (ρ : Val) → Low p ρ → (v : Variable) (y : ℕ) → y ≤ 1 → ρ v ≡ y → ((1 * ρ One + ((p - 1) * ρ v + 0)) * (1 * ρ v + 0)) % p ≡ 0 % p
     met ρ low v y h e = bit-met p (ρ One) (ρ v) (P .0) (low .one) (subst (λ (z : ℕ). z ≤ 1) (sym e) h)
+
     reached : (i : In) (x : X) (y : ℕ) (mode : AllocationMode) (o : Option Bool) → New mode o y → Goes false p (alloc-script p mode o) (λ ρ. at ρ i ≡ x) (λ ρ b. bit-number-of ρ b ≡ y)
     reached i x y as-constant None r = (tt, λ ρ low q. tt)
     reached i x y as-constant (Some b) r = (tt, λ ρ low q. sym (r .1))
     reached i x y as-input o r = ((y, λ v. tt), λ ρ low q. (omega (arith, r .0, P .0), λ v e. (met ρ low v y (r .0) e, e)))
     reached i x y as-witness o r = ((y, λ v. tt), λ ρ low q. (omega (arith, r .0, P .0), λ v e. (met ρ low v y (r .0) e, e)))
+
     owned : (i : In) (x : X) (mode : AllocationMode) (o : Option Bool) → Goes true p (alloc-script p mode o) (λ ρ. at ρ i ≡ x) (λ ρ b. bit-number-of ρ b ≡ number (bit-number o))
     owned i x as-constant None = (tt, λ ρ low q. tt)
     owned i x as-constant (Some b) = (tt, λ ρ low q. refl)

@@ -35,13 +35,14 @@ use Rattle.readings.proofs.BitLaws.{pair, flipped, tabled, Bits, gate-call, no
 
 -- ---- a gadget whose answer is another type's
 pub law-over : (p : ℕ) {In Out Out′ X Y : Type 0} (at : Val → In → X) (of : Val → Out → Y) (of′ : Val → Out′ → Y) (f : Out → Out′) → ((ρ : Val) (o : Out) → of′ ρ (f o) ≡ of ρ o) → (g : In → Script Out)
-  (P : X → Type 0) (R : X → Y → Type 0) (S : X → Type 0) (e : X → Y) → Law p at of g P R S e → Law p at of′ (λ i. then (g i) (λ o. answer (f o))) P R S e
+    (P : X → Type 0) (R : X → Y → Type 0) (S : X → Type 0) (e : X → Y) → Law p at of g P R S e → Law p at of′ (λ i. then (g i) (λ o. answer (f o))) P R S e
 law-over p {In} {Out} {Out′} {X} {Y} at of of′ f same g P R S e a = record {
   sound = λ ρ low i h. must-then p ρ (g i) (λ o. answer (f o)) (λ o. R (at ρ i) (of ρ o)) (λ o. R (at ρ i) (of′ ρ o)) (a .sound ρ low i h) (λ o r. subst (R (at ρ i)) (sym (same ρ o)) r);
   complete = λ i x y h r. turned false i x y (a .complete i x y h r);
   own = λ i x h. turned true i x (e x) (a .own i x h);
   obeyed = a .obeyed;
-  solvable = a .solvable }
+  solvable = a .solvable;
+}
   where
     turned : (b : Bool) (i : In) (x : X) (y : Y) → Goes b p (g i) (λ ρ. at ρ i ≡ x) (λ ρ o. of ρ o ≡ y) → Goes b p (then (g i) (λ o. answer (f o))) (λ ρ. at ρ i ≡ x) (λ ρ o. of′ ρ o ≡ y)
     turned b i x y h = goes-then b p (g i) (λ o. answer (f o)) (λ ρ. at ρ i ≡ x) (λ ρ o. of ρ o ≡ y) (λ ρ o. of′ ρ o ≡ y) h (λ o. (tt, λ ρ low q. same ρ o ∙ q .1))
@@ -86,11 +87,11 @@ one-law p P two (Clone a) =
 one-law p P two (Not a) =
     law-over p numbers-of bit-number-of number-of Bit (λ ρ o. refl) (λ bk. not-script p (bit-at bk a)) (Pre (Not a)) (One-reading (Not a)) (λ xs. Unit {0}) (λ xs. flipped (getD xs a 0))
     (law-on p bit-number-of bit-number-of (not-script p) numbers-of (λ bk. bit-at bk a) (λ xs. getD xs a 0) (λ ρ bk. bit-same ρ bk a) (λ x. x ≤ 1) (Is flipped) (λ x. Unit {0}) flipped
-      (function-law p bit-number-of bit-number-of (not-script p) (λ x. x ≤ 1) (Is flipped) flipped (λ x h. refl) (λ x y h r. r) (not-function p P)))
+    (function-law p bit-number-of bit-number-of (not-script p) (λ x. x ≤ 1) (Is flipped) flipped (λ x h. refl) (λ x y h r. r) (not-function p P)))
 one-law p P two (Gated g a b) =
     law-over p numbers-of bit-number-of number-of Bit (λ ρ o. refl) (λ bk. gate-call g p (bit-at bk a, bit-at bk b)) (Pre (Gated g a b)) (One-reading (Gated g a b)) (λ xs. Unit {0}) (λ xs. tabled g (getD xs a 0, getD xs b 0))
     (law-on p pair bit-number-of (gate-call g p) numbers-of (λ bk. (bit-at bk a, bit-at bk b)) (λ xs. (getD xs a 0, getD xs b 0)) (λ ρ bk i. (bit-same ρ bk a i, bit-same ρ bk b i)) Bits (Is (tabled g)) (λ x. Unit {0}) (tabled g)
-      (function-law p pair bit-number-of (gate-call g p) Bits (Is (tabled g)) (tabled g) (λ x h. refl) (λ x y h r. r) (gate-function g p P two)))
+    (function-law p pair bit-number-of (gate-call g p) Bits (Is (tabled g)) (tabled g) (λ x h. refl) (λ x y h r. r) (gate-function g p P two)))
 
 pub law : (p : ℕ) → Prime p → 2 < p → (c : Command) → Law p (lists number-of) (lists number-of) (command-script p c) (Pre c) (Reading c) (λ xs. Unit {0}) (λ xs. computed c xs ∷ [])
 law p P two c = law-one p numbers-of number-of (one-script p c) (Pre c) (One-reading c) (λ xs. Unit {0}) (computed c) (one-law p P two c)

@@ -32,7 +32,7 @@ pub solved : (p x y w : ℕ) → 1 < p → w < p → x < p → y ≤ x → (x + 
 solved p x y w above lw lx le e =
     let d : x - y + y ≡ x = omega arith in
     let same : (w + y) % p ≡ (x - y + y) % p =
-        ap (λ (t : ℕ). t % p) (omega arith) ∙ add-mod y w p ∙ ap (λ (t : ℕ). (t + w % p) % p) (sym e) ∙ sym (add-mod (x + (p - 1) * w) w p) ∙ gap p x w above ∙ ap (λ (t : ℕ). t % p) (sym d) in
+    ap (λ (t : ℕ). t % p) (omega arith) ∙ add-mod y w p ∙ ap (λ (t : ℕ). (t + w % p) % p) (sym e) ∙ sym (add-mod (x + (p - 1) * w) w p) ∙ gap p x w above ∙ ap (λ (t : ℕ). t % p) (sym d) in
     sym (mod-eq-of-lt lw) ∙ cancel p w (x - y) y same ∙ mod-eq-of-lt (omega arith)
 
 pub solves : (p x y w : ℕ) → 1 < p → y ≤ x → w ≡ x - y → (x + (p - 1) * w) % p ≡ y % p
@@ -117,11 +117,11 @@ gate-forced And p o a b w two one ha hb lw r =
 gate-forced Or p o a b w two one ha hb lw r =
     let q = small (1 - a) (1 - b) (omega arith) (omega arith) in
     solved p 1 ((1 - a) * (1 - b)) w (omega arith) lw (omega arith) q
-      (ap (λ (t : ℕ). t % p) (omega arith) ∙ sym r ∙ both-less p o a b (omega arith) one ha hb)
+    (ap (λ (t : ℕ). t % p) (omega arith) ∙ sym r ∙ both-less p o a b (omega arith) one ha hb)
     ∙ table Or a b ha hb
 gate-forced Xor p o a b w two one ha hb lw r =
     solved p (a + b) ((2 * a) * b) w (omega arith) lw (omega arith) (twice a b ha hb)
-      (ap (λ (t : ℕ). t % p) (omega arith) ∙ sym r ∙ ap₂ (λ (s t : ℕ). (s * t) % p) (omega arith) (omega arith))
+    (ap (λ (t : ℕ). t % p) (omega arith) ∙ sym r ∙ ap₂ (λ (s t : ℕ). (s * t) % p) (omega arith) (omega arith))
     ∙ table Xor a b ha hb
 
 pub gate-met : (g : Gate) (p o a b w : ℕ) → 2 < p → o ≡ 1 → a ≤ 1 → b ≤ 1 → w ≡ bit (applied g (truth a) (truth b)) → Row g p o a b w

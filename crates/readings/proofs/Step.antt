@@ -145,7 +145,8 @@ answers-one p n k (Clone a) bk os r e = record {
   is = sym (first-of (answer-at bk a ∷ []) os n k e);
   real = real-at bk a r;
   kind = λ h. ap kinds (sym (first-of (answer-at bk a ∷ []) os n k e))
-      ∙ ap (λ x. x ∷ []) (sym (getD-map kind-of bk a (Bit (Constant false)) a-number (there bk a (true-ltb a (length (kinds bk)) (sym h))))) }
+      ∙ ap (λ x. x ∷ []) (sym (getD-map kind-of bk a (Bit (Constant false)) a-number (there bk a (true-ltb a (length (kinds bk)) (sym h)))));
+}
   where
     there : (bk : List Answer) (a : ℕ) → a < length (kinds bk) → a < length bk
     there bk a h = omega (arith, length-map bk kind-of)
@@ -162,7 +163,7 @@ answered-is {A} x y m n e = let q : _≡_ {A = Result A GadgetFault} (Ok x) (Ok 
 
 -- a new input or witness has the value that it was given
 given-new : (p : ℕ) (d : Side) (o : Option Bool) (m n : Meaning) (x : List Answer) (k : Variable → List Answer) → m .keeps ≡ true
-  → run p (allocate d [] (λ os. bit-number o) (λ v. row (one-less p v) (just v) [] (answer (k v)))) m ≡ (Ok x, n) → (v : Variable) × (x ≡ k v) × Given (bit-number o) (assigned n v)
+    → run p (allocate d [] (λ os. bit-number o) (λ v. row (one-less p v) (just v) [] (answer (k v)))) m ≡ (Ok x, n) → (v : Variable) × (x ≡ k v) × Given (bit-number o) (assigned n v)
 given-new p d o m n x k keeps ran =
     let a = allocated d [] (λ os. bit-number o) (λ v. run p (row (one-less p v) (just v) [] (answer (k v)))) m n x ran in
     let v = next-of d m in
@@ -240,7 +241,7 @@ module _ (p : ℕ) (P : Prime p) (two : 2 < p) where
   barred h s c ks e l k q ran =
       ap (by-check c (s .system) (s .book)) q
       ∙ ap (by-bill ks) (ap (λ b. settled b (s .system)) (sym (billed-so p two (s .system) c (s .book) (k .real) (k .kept .book)))
-        ∙ settles-err p (command-script p c (s .book)) (s .system) l e (λ t os. Each (Names-there t) os) (sees p c (s .book) (has (s .system)) refl (k .kept .book)) (steady p c (s .book)) ran)
+      ∙ settles-err p (command-script p c (s .book)) (s .system) l e (λ t os. Each (Names-there t) os) (sees p c (s .book) (has (s .system)) refl (k .kept .book)) (steady p c (s .book)) ran)
 
   -- and of one that is accepted
   cleared : (h : History) (s : State) (c : Command) (os : List Answer) (n : Meaning) → Running p h s → run p (command-script p c (s .book)) (s .system) ≡ (Ok os, n) → settled (bill c (s .book)) (s .system) ≡ Ok (account n)
@@ -253,35 +254,48 @@ module _ (p : ℕ) (P : Prime p) (two : 2 < p) where
     run = refuses c f (k .run) e;
     kept = step-refused p (P .0) number-of Names-there Bounded-by-kind Reading c (entries h) (s .system) (s .book) (k .kept);
     real = k .real;
-    told = k .told }
+    told = k .told;
+  }
 
   pub running-accepted : (h : History) (s : State) (c : Command) (ks : List Kind) (os : List Answer) (n : Meaning) → Running p h s → checked c (kinds (s .book)) (s .places) ≡ Ok ks → run p (command-script p c (s .book)) (s .system) ≡ (Ok os, n) → Running p ((c, Ok ks) ∷ h) (state n (s .book ++ os) (s .places))
   running-accepted h s c ks os n k q ran = record {
     run = accepts c ks (state n (s .book ++ os) (s .places)) (k .run) (ap (by-check c m bk) q ∙ ap (by-bill ks) (cleared h s c os n k ran))
-      (record { system = grows; paid = cleared h s c os n k ran; answers = os; book = refl; kinds-are = same-kinds; places-are = refl });
+        (record { system = grows; paid = cleared h s c os n k ran; answers = os; book = refl; kinds-are = same-kinds; places-are = refl });
     kept = subst (λ (j : ℕ). Kept p number-of Names-there Bounded-by-kind Reading (accepted c j ∷ entries h) n (bk ++ os)) many
-      (step-accepted p (P .0) number-of Names-there Bounded-by-kind Reading local wider (command-script p) Pre (λ d xs. Unit {0}) (λ d xs. computed d xs ∷ []) (law p P two)
-        (λ d b m. all-named p d b (has m) refl) (tidy p (P .0)) (λ d b o m n r. kinds-of d b o) (λ d g b o m n r xs a y. pre-of d b xs a) c (entries h) m n bk os (k .kept) ran);
+        (step-accepted p (P .0) number-of Names-there Bounded-by-kind Reading local wider (command-script p) Pre (λ d xs. Unit {0}) (λ d xs. computed d xs ∷ []) (law p P two)
+        (λ d b h k. all-named p d b h (k .one)) (tidy p (P .0)) (λ d b o m n r. kinds-of d b o) (λ d g b o m n r xs a y. pre-of d b xs a) c (entries h) m n bk os (k .kept) ran);
     real = each-append Real bk os (k .real) (subst (Each Real) (sym (one .is)) (one .real, tt));
-    told = λ keeps.
-      ( numbers-of (assigned n) bk, numbers-of (assigned n) os, numbers-append (assigned n) bk os, numbers-long (assigned n) os ∙ many,
-        given-by p c bk os m n (kept-so keeps) ran,
-        subst (Tells h) (sym (nums-same number-of Names-there local (has m) (assigned m) (assigned n) (assigned-grows m n grows) bk (k .kept .book))) (k .told (kept-so keeps)) ) }
+    told = λ keeps. (
+      numbers-of (assigned n) bk,
+      numbers-of (assigned n) os,
+      numbers-append (assigned n) bk os,
+      numbers-long (assigned n) os ∙ many,
+      given-by p c bk os m n (kept-so keeps) ran,
+      subst (Tells h) (sym (nums-same number-of Names-there local (has m) (assigned m) (assigned n) (assigned-grows m n grows) bk (k .kept .book))) (k .told (kept-so keeps)),
+    );
+  }
     where
       m : Meaning
       m = s .system
+
       bk : List Answer
       bk = s .book
+
       grows : Grows (s .system) n
       grows = run-grows p (command-script p c (s .book)) (s .system) n os ran
+
       kept-so : n .keeps ≡ true → s .system .keeps ≡ true
       kept-so keeps = sym (run-grows p (command-script p c (s .book)) (s .system) n os ran .keeps-is) ∙ keeps
+
       one : Answers-one (s .book) os c
       one = answers-one p (names (s .system)) (names n) c (s .book) os (k .real) (ends-run p (command-script p c (s .book)) (s .system) n os ran)
+
       good : Passed c (s .book) ks
       good = passed c (s .book) (s .places) ks q
+
       same-kinds : kinds os ≡ ks
       same-kinds = answers-one p (names (s .system)) (names n) c (s .book) os (k .real) (ends-run p (command-script p c (s .book)) (s .system) n os ran) .kind (passed c (s .book) (s .places) ks q .fit) ∙ sym (passed c (s .book) (s .places) ks q .are)
+
       many : length os ≡ length ks
       many = sym (length-map os kind-of) ∙ ap length same-kinds
 
@@ -299,12 +313,14 @@ module _ (p : ℕ) (P : Prime p) (two : 2 < p) where
           let n₁ = subst (λ (x : Result (List Kind) TapeFault). Running p ((c, x) ∷ h) t₁) (sym q) n in
           let o₁ = o ∙ ap (over (λ ks. tt)) (sym q) in
           subst (λ (y : Result (Unit {0}) TapeFault × State). Stepped p h c s (y .1) (y .0)) z (record { outcome = o₁; running = n₁; promise = promised ((c, decided c s) ∷ h) t₁ n₁ })
+
       by-run : (ks : List Kind) → checked c (kinds (s .book)) (s .places) ≡ Ok ks → (z : Result (List Answer) GadgetFault) (l : Meaning) → run p (command-script p c (s .book)) (s .system) ≡ (z, l) → filed s (restored (s .system) z l .0) (restored (s .system) z l .1) ≡ (r, t) → Stepped p h c s t r
       by-run ks q (Ok os) l ran y =
           ended (Ok ks) (Ok tt) (state l (s .book ++ os) (s .places)) (ap (by-check c (s .system) (s .book)) q ∙ ap (by-bill ks) (cleared h s c os l k ran)) refl (running-accepted h s c ks os l k q ran) y
       by-run ks q (Err g) l ran y =
           let d = barred h s c ks g l k q ran in
           ended (Err (Gadget g)) (Err (Gadget g)) s d refl (running-refused h s c (Gadget g) k d) y
+
       by-checked : (d : Result (List Kind) TapeFault) → checked c (kinds (s .book)) (s .places) ≡ d → performed p c s d ≡ (r, t) → Stepped p h c s t r
       by-checked (Ok ks) q y = by-run ks q (run p (command-script p c (s .book)) (s .system) .0) (run p (command-script p c (s .book)) (s .system) .1) refl y
       by-checked (Err f) q y = let d = unfit h s c f k q in ended (Err f) (Err f) s d refl (running-refused h s c f k d) y
@@ -316,6 +332,7 @@ module _ (p : ℕ) (P : Prime p) (two : 2 < p) where
       by-run : (z : Result (List Answer) GadgetFault) (l : Meaning) → filed s (restored (s .system) z l .0) (restored (s .system) z l .1) ≡ (Err f, t) → t ≡ s
       by-run (Ok os) l y = let q : _≡_ {A = Result (Unit {0}) TapeFault} (Ok tt) (Err f) = ap (λ z. z .0) y in let z : _≡_ {A = ℕ} 0 1 = cc q in absurd (omega arith)
       by-run (Err g) l y = ap (λ z. z .1) (sym y)
+
       by-checked : (d : Result (List Kind) TapeFault) → performed p c s d ≡ (Err f, t) → t ≡ s
       by-checked (Ok ks) y = by-run (run p (command-script p c (s .book)) (s .system) .0) (run p (command-script p c (s .book)) (s .system) .1) y
       by-checked (Err g) y = ap (λ z. z .1) (sym y)
@@ -326,4 +343,5 @@ module _ (p : ℕ) (P : Prime p) (two : 2 < p) where
     run = begins s f e;
     kept = subst (Kept p number-of Names-there Bounded-by-kind Reading [] (s .system)) (sym e) (start p (P .0) number-of Names-there Bounded-by-kind Reading (s .system) f);
     real = subst (Each Real) (sym e) tt;
-    told = λ q. tt }
+    told = λ q. tt;
+  }

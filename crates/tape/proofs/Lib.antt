@@ -1,3 +1,4 @@
 pub mod Books
 pub mod Executes
 pub mod Primes
+pub mod Tapes

@@ -1,2 +1,3 @@
 pub mod Book
 pub mod State
+pub mod Tape

@@ -92,7 +92,10 @@ fn execute_steps<F: Field, S: System<F>>(
 
 /// One command: accepted or refused as the rules decide. A refusal leaves the system, its words and the book as they were; and where a
 /// run has come to this circuit, the command is the run's next, with all that runs promise.
-pub fn execute<F: Field, S: System<F>>(circuit: &mut Circuit<S>, command: Command) -> Result<(), TapeFault>
+pub fn execute<F: Field, S: System<F>>(
+    circuit: &mut Circuit<S>,
+    command: Command,
+) -> Result<(), TapeFault>
     requires { ⌜ S·System .sound (now circuit .system) ⌝ }
     ensures still { λ _. ⌜ S·System .sound (now (circuit .exit) .system) ⌝ }
     ensures does { λ r. ⌜ executed (F·Field .modulus) command (state-of (S·System .meaning) (now (circuit .entry))) ≡ (r, state-of (S·System .meaning) (now (circuit .exit))) ⌝ }

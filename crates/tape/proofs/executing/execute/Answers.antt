@@ -24,9 +24,10 @@ returns g c =
     let t = state-of (g .S·System .meaning) (c .execute-steps .last .circuit) in
     let e = c .execute-steps .ensures in
     record {
-        still = e .still;
-        does = e .does;
-        adds = e .adds;
-        leaves = e .leaves;
-        unchanged = same p (l .prime) (above-two p (l .prime) (l .odd)) (c .args .command) s t (c .execute-steps .result) (e .does);
-        runs = λ h k. stepped p (l .prime) (above-two p (l .prime) (l .odd)) h (c .args .command) s t (c .execute-steps .result) (e .does) k }
+      still = e .still;
+      does = e .does;
+      adds = e .adds;
+      leaves = e .leaves;
+      unchanged = same p (l .prime) (above-two p (l .prime) (l .odd)) (c .args .command) s t (c .execute-steps .result) (e .does);
+      runs = λ h k. stepped p (l .prime) (above-two p (l .prime) (l .odd)) h (c .args .command) s t (c .execute-steps .result) (e .does) k;
+    }
