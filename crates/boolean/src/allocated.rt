@@ -136,7 +136,8 @@ impl AllocatedBool {
     pub fn variable(self) -> Variable
         ensures { λ r. ⌜ r ≡ self .variable ⌝ }
     {
-        self.variable
+        let AllocatedBool { variable } = self;
+        variable
     }
 
     /// A new input with the row that forces it.
@@ -163,8 +164,8 @@ impl AllocatedBool {
         ensures does { λ r. ⌜ Ran (run (F·Field .modulus) (new-bit (F·Field .modulus) witness value)) (S·System .meaning (now (cs .entry))) r (S·System .meaning (now (cs .exit))) ⌝ }
         ensures adds { λ _. ⌜ Adds (S·System .meaning (now (cs .entry))) (S·System .stored (now (cs .entry))) (S·System .meaning (now (cs .exit))) (S·System .stored (now (cs .exit))) ⌝ }
     {
-        let variable = cs.new_witness(bit_value(value))?;
-        LooseBit { variable }.enforce_boolean(cs)
+        let w = cs.new_witness(bit_value(value))?;
+        LooseBit { variable: w }.enforce_boolean(cs)
     }
 
     /// One less the bit.

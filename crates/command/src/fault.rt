@@ -27,24 +27,13 @@ impl TapeFault {
     pub fn refusal(self) -> Refusal
         ensures { λ r. ⌜ r ≡ of-tape self ⌝ }
     {
-        match self {
-            TapeFault::Gadget(fault) => fault.refusal(),
-            TapeFault::Unknown => Refusal {
-                number: 1,
-                layer: 1,
-            },
-            TapeFault::Operand => Refusal {
-                number: 2,
-                layer: 1,
-            },
-            TapeFault::Length => Refusal {
-                number: 3,
-                layer: 1,
-            },
-            TapeFault::BookFull => Refusal {
-                number: 11,
-                layer: 1,
-            },
-        }
+        let (number, layer) = match self {
+            TapeFault::Gadget(fault) => return fault.refusal(),
+            TapeFault::Unknown => (1, 1),
+            TapeFault::Operand => (2, 1),
+            TapeFault::Length => (3, 1),
+            TapeFault::BookFull => (11, 1),
+        };
+        Refusal { number, layer }
     }
 }

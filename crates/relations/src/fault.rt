@@ -63,24 +63,13 @@ impl GadgetFault {
     pub fn refusal(self) -> Refusal
         ensures { λ r. ⌜ r ≡ of-gadget self ⌝ }
     {
-        match self {
-            GadgetFault::System(fault) => fault.refusal(),
-            GadgetFault::TooManyMembers => Refusal {
-                number: 4,
-                layer: 2,
-            },
-            GadgetFault::NoValue => Refusal {
-                number: 5,
-                layer: 2,
-            },
-            GadgetFault::Unsatisfiable => Refusal {
-                number: 6,
-                layer: 2,
-            },
-            GadgetFault::NoSystem => Refusal {
-                number: 7,
-                layer: 2,
-            },
-        }
+        let (number, layer) = match self {
+            GadgetFault::System(fault) => return fault.refusal(),
+            GadgetFault::TooManyMembers => (4, 2),
+            GadgetFault::NoValue => (5, 2),
+            GadgetFault::Unsatisfiable => (6, 2),
+            GadgetFault::NoSystem => (7, 2),
+        };
+        Refusal { number, layer }
     }
 }

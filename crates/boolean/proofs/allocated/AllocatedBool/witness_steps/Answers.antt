@@ -6,5 +6,5 @@ returns g c =
     record {
       still = search needs;
       does = search needs;
-      adds = λ l u h. c .enforce-boolean .ensures .adds l u (c .in-Continue-variable .ensures tt .adds l u h);
+      adds = λ l u h. c .enforce-boolean .ensures .adds l u (c .in-Continue-w .ensures tt .adds l u h);
     }
