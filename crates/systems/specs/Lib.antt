@@ -1,0 +1,4 @@
+pub mod Held
+pub mod Opening
+pub mod Outline
+pub mod Unmet

@@ -1,0 +1,13 @@
+pub mod Steps
+pub mod Frames
+pub mod Storing
+pub mod Merging
+pub mod Values
+pub mod RowLaid
+pub mod Combining
+pub mod Areas
+pub mod Cuts
+pub mod Worths
+pub mod Tables
+pub mod Heads
+pub mod There

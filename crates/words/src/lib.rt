@@ -1,0 +1,3 @@
+pub mod merge;
+pub mod read;
+pub mod scan;
