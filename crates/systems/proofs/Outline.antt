@@ -68,6 +68,7 @@ at-placed n f os qs j o h = by-zero (eqb j 0) refl
         let le : n .inputs ≤ j - 1 = ltb-false (j - 1) (n .inputs) e in
         let same : j ≡ 1 + n .inputs + (j - 1 - n .inputs) = omega arith in
         ap (λ (x : ℕ). getD qs x 0) same ∙ o .witnesses (j - 1 - n .inputs) (omega arith)
+
     by-zero : (b : Bool) → eqb j 0 ≡ b → getD qs j 0 ≡ f (cond b One (cond (ltb (j - 1) (n .inputs)) (Input (j - 1)) (Witness (j - 1 - n .inputs))))
     by-zero true e = ap (λ (x : ℕ). getD qs x 0) (eqb-true j 0 e) ∙ o .one
     by-zero false e = by-input (ltb (j - 1) (n .inputs)) refl (eqb-false j 0 e)

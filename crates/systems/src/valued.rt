@@ -1,17 +1,21 @@
 ghost use mathlib.Core.Path.{_≡_};
-ghost use lib.ListN.{length};
+ghost use mathlib.Core.Bool.{true, false, _&&_};
+ghost use lib.Dec.{leb, ltb};
+ghost use lib.ListN.{length, take, drop};
 ghost use Rattle.std.specs.Options.{mapped};
 ghost use Rattle.std.specs.Results.{Cases};
 ghost use Rattle.std.specs.declared.option.Option.the-variants.{Some as some};
 ghost use Rattle.relations.specs.Meaning.{Ran, input, witness, new-variable, Adds, Leaves};
-ghost use Rattle.systems.specs.Held.{meant-by, Sound};
+ghost use Rattle.systems.specs.Held.{state, meant-by, Sound};
 ghost use Rattle.systems.specs.Opening.{opening, Opened};
+ghost use Rattle.systems.specs.Outline.{width, working, row-sum, coefficients};
 ghost use Rattle.systems.specs.Unmet.{first-unmet};
 use crate::keeping::Keeping;
 use crate::lent;
 use crate::lent::Counts;
 use crate::lent::Lent;
 use crate::lent::OpenFault;
+use crate::lent::Part;
 use crate::lent::Rooms;
 use field::Field;
 use relations::Mark;
@@ -43,6 +47,26 @@ impl<'a> Valued<Lent<'a>> {
         ensures { λ r. ⌜ r ≡ first-unmet (F·Field .modulus) (meant-by (now (self .entry) .inner)) ⌝ }
     {
         self.inner.unmet()
+    }
+
+    /// How many words it takes to write a sum out.
+    pub fn working_words<F: Field>(&self) -> usize
+        requires { ⌜ Sound (F·Field .modulus) (now self .inner) ⌝ }
+        ensures { λ r. ⌜ r ≡ working (state (now (self .entry) .inner)) ⌝ }
+    {
+        self.inner.working_words()
+    }
+
+    /// Writes out one of the sums of a row: the coefficients of One, of the inputs and of the witnesses, in this order. It is
+    /// false, and `out` as it was, where there is no such row or `out` has not all the words that it takes.
+    pub fn coefficients<F: Field>(&self, row: usize, part: Part, out: &mut [u32]) -> bool
+        requires { ⌜ Sound (F·Field .modulus) (now self .inner) ⌝ }
+        ensures done { λ r. ⌜ r ≡ ltb row (length (meant-by (now (self .entry) .inner) .rows)) && leb (working (state (now (self .entry) .inner))) (length (now (out .entry))) ⌝ }
+        ensures refused { λ r. ⌜ (r ≡ false → now (out .exit) ≡ now (out .entry)) ⌝ }
+        ensures written { λ r. ⌜ (r ≡ true → take (width (meant-by (now (self .entry) .inner))) (now (out .exit)) ≡ coefficients (F·Field .modulus) (meant-by (now (self .entry) .inner)) (row-sum part row (meant-by (now (self .entry) .inner)))) ⌝ }
+        ensures beyond { λ r. ⌜ (r ≡ true → drop (working (state (now (self .entry) .inner))) (now (out .exit)) ≡ drop (working (state (now (self .entry) .inner))) (now (out .entry))) ⌝ }
+    {
+        self.inner.coefficients(row, part, out)
     }
 }
 

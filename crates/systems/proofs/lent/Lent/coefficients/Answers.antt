@@ -35,9 +35,9 @@ returns c =
     in
     record {
       done =
-      c .write-out .ensures .room
-      ∙ ap (λ (n : Counts). leb (cells n) (length (c .args .out .now))) (c .outline .ensures)
-      ∙ sym (ap (λ (b : Bool). b && leb (working s) (length (c .args .out .now))) (lt-ltb (c .args .row) _ (omega (arith, rows-long s, c .if-row-self .left))));
+          c .write-out .ensures .room
+          ∙ ap (λ (n : Counts). leb (cells n) (length (c .args .out .now))) (c .outline .ensures)
+          ∙ sym (ap (λ (b : Bool). b && leb (working s) (length (c .args .out .now))) (lt-ltb (c .args .row) _ (omega (arith, rows-long s, c .if-row-self .left))));
       refused = c .write-out .ensures .refused;
       written = λ e. lies e .written;
       beyond = λ e. lies e .beyond;
