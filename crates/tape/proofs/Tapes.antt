@@ -21,7 +21,7 @@ use Rattle.command.specs.declared.fault.TapeFault.the-variants.{Unknown}
 use Rattle.command.specs.declared.answers.Refused.{Refused}
 use Rattle.command.specs.Refusals.{of-tape}
 use Rattle.command.specs.Tape.{bytes, spelled, decoded}
-use Rattle.readings.specs.State.{State}
+use Rattle.readings.specs.State.{State, executed}
 use Rattle.readings.specs.Runs.{History, Running, Promise, decided}
 use Rattle.tape.specs.Tape.{Reads, nothing, further, line, lines, last-line, outcome-line, Next, Whole, Ends, Taped, Progress}
 
@@ -60,12 +60,12 @@ lines-more (Ok ks) c h = sym (append-nil (lines h))
 lines-more (Err f) c h = refl
 
 -- a run before its first command
-pub begun : (p : ℕ) (tape : List ℕ) (g : History) (s : State) (before : List Refused) → Running p g s → Progress p tape g s 0 0 before before
-begun p tape g s before k = record { history = []; reads = nothing; count = refl; running = k; refusals = sym (append-nil before) }
+pub begun : (p : ℕ) (tape : List ℕ) (g : History) (s : State) (before : List Refused) → Running p g s → Progress p tape g s s 0 0 before before
+begun p tape g s before k = record { history = []; reads = nothing; count = refl; steps = refl; running = k; refusals = sym (append-nil before) }
 
 -- one command more
-pub gone-on : (E : Type 0) (p : ℕ) (tape : List ℕ) (g : History) (s t : State) (at n k : ℕ) (before middle after : List Refused) → Next {E = E} p (drop at tape) n s t (Ok (Some k)) middle after → Progress p tape g s at n before middle → Progress p tape g t (at + k) (n + 1) before after
-gone-on E p tape g s t at n k before middle after step r =
+pub gone-on : (E : Type 0) (p : ℕ) (tape : List ℕ) (g : History) (o s t : State) (at n k : ℕ) (before middle after : List Refused) → Next {E = E} p (drop at tape) n s t (Ok (Some k)) middle after → Progress p tape g o s at n before middle → Progress p tape g o t (at + k) (n + 1) before after
+gone-on E p tape g b s t at n k before middle after step r =
     let d = step .0 in
     let o = decided (d .command) s in
     let more = step .3 (r .history ++ g) (r .running) in
@@ -73,6 +73,7 @@ gone-on E p tape g s t at n k before middle after step r =
       history = (d .command, o) ∷ r .history;
       reads = subst (λ (j : ℕ). Reads tape ((d .command, o) ∷ r .history) (at + j)) (sym (step .2)) (further d o (r .reads) (step .1));
       count = omega (arith, r .count);
+      steps = step .4 ∙ ap (λ (x : State). executed p (d .command) x .1) (r .steps);
       running = more .0;
       refusals = more .1 ∙ ap (λ l. l ++ outcome-line n o) (r .refusals) ∙ append-assoc before (lines (r .history)) (outcome-line n o)
           ∙ ap (λ j. before ++ (lines (r .history) ++ outcome-line j o)) (r .count) ∙ ap (λ l. before ++ l) (sym (lines-more o (d .command) (r .history)));
@@ -83,14 +84,15 @@ ended most tape h at a b e f = λ i. cond (e i && f i) (line (length h) Unknown 
 
 module _ {E : Type 0} (p most : ℕ) (tape : List ℕ) (promised : (h : History) (s : State) → Running p h s → Promise p h s) where
   -- a run that comes to a command that is unknown or cut off
-  pub unknown-end : (g : History) (s t : State) (at n : ℕ) (before middle after : List Refused) → n < most → at < length tape → Next {E = E} p (drop at tape) n s t (Ok None) middle after → Progress p tape g s at n before middle → Taped {E = E} p most tape g t (Ok n) before after
-  unknown-end g s t at n before middle after lt in-tape step r =
+  pub unknown-end : (g : History) (o s t : State) (at n : ℕ) (before middle after : List Refused) → n < most → at < length tape → Next {E = E} p (drop at tape) n s t (Ok None) middle after → Progress p tape g o s at n before middle → Taped {E = E} p most tape g o t (Ok n) before after
+  unknown-end g o s t at n before middle after lt in-tape step r =
       let k = subst (Running p (r .history ++ g)) (sym (step .1)) (r .running) in
       record {
         history = r .history;
         at = at;
         reads = r .reads;
         few = omega (arith, r .count);
+        steps = step .1 ∙ r .steps;
         running = k;
         promise = promised (r .history ++ g) t k;
         ends = record {
@@ -102,12 +104,13 @@ module _ {E : Type 0} (p most : ℕ) (tape : List ℕ) (promised : (h : History)
         };
       }
 
-  no-more : (g : History) (t : State) (at n : ℕ) (before after : List Refused) → n ≤ most → (r : Progress p tape g t at n before after) → last-line most tape (r .history) at ≡ [] → (length (r .history) < most → at < length tape → ⊥) → Taped {E = E} p most tape g t (Ok n) before after
-  no-more g t at n before after le r e h = record {
+  no-more : (g : History) (o t : State) (at n : ℕ) (before after : List Refused) → n ≤ most → (r : Progress p tape g o t at n before after) → last-line most tape (r .history) at ≡ [] → (length (r .history) < most → at < length tape → ⊥) → Taped {E = E} p most tape g o t (Ok n) before after
+  no-more g o t at n before after le r e h = record {
     history = r .history;
     at = at;
     reads = r .reads;
     few = omega (arith, r .count);
+    steps = r .steps;
     running = r .running;
     promise = promised (r .history ++ g) t (r .running);
     ends = record {
@@ -118,22 +121,22 @@ module _ {E : Type 0} (p most : ℕ) (tape : List ℕ) (promised : (h : History)
   }
 
   -- a run that comes to the tape's end
-  pub tape-end : (g : History) (t : State) (at n : ℕ) (before after : List Refused) → n ≤ most → length tape ≤ at → Progress p tape g t at n before after → Taped {E = E} p most tape g t (Ok n) before after
-  tape-end g t at n before after le past r = no-more g t at n before after le r (go (ltb (length (r .history)) most) refl) (λ a b. omega arith)
+  pub tape-end : (g : History) (o t : State) (at n : ℕ) (before after : List Refused) → n ≤ most → length tape ≤ at → Progress p tape g o t at n before after → Taped {E = E} p most tape g o t (Ok n) before after
+  tape-end g o t at n before after le past r = no-more g o t at n before after le r (go (ltb (length (r .history)) most) refl) (λ a b. omega arith)
     where
       go : (b : Bool) → ltb (length (r .history)) most ≡ b → last-line most tape (r .history) at ≡ []
       go true e = ended most tape (r .history) at true false e (le-ltb at (length tape) past)
       go false e = ended most tape (r .history) at false false e (le-ltb at (length tape) past)
 
   -- a run that comes to its limit
-  pub limit-end : (g : History) (t : State) (at n : ℕ) (before after : List Refused) → n ≤ most → most ≤ n → Progress p tape g t at n before after → Taped {E = E} p most tape g t (Ok n) before after
-  limit-end g t at n before after le ge r = no-more g t at n before after le r (ended most tape (r .history) at false (ltb at (length tape)) (le-ltb (length (r .history)) most (omega (arith, r .count))) refl) (λ a b. omega (arith, r .count))
+  pub limit-end : (g : History) (o t : State) (at n : ℕ) (before after : List Refused) → n ≤ most → most ≤ n → Progress p tape g o t at n before after → Taped {E = E} p most tape g o t (Ok n) before after
+  limit-end g o t at n before after le ge r = no-more g o t at n before after le r (ended most tape (r .history) at false (ltb at (length tape)) (le-ltb (length (r .history)) most (omega (arith, r .count))) refl) (λ a b. omega (arith, r .count))
 
   -- a run that is stopped for want of memory
-  pub memory-end : (g : History) (s t : State) (at n : ℕ) (e : E) (before middle after : List Refused) → n ≤ most → t ≡ s → after ≡ middle → Progress p tape g s at n before middle → Taped {E = E} p most tape g t (Err e) before after
-  memory-end g s t at n e before middle after le q a r =
+  pub memory-end : (g : History) (o s t : State) (at n : ℕ) (e : E) (before middle after : List Refused) → n ≤ most → t ≡ s → after ≡ middle → Progress p tape g o s at n before middle → Taped {E = E} p most tape g o t (Err e) before after
+  memory-end g o s t at n e before middle after le q a r =
       let k = subst (Running p (r .history ++ g)) (sym q) (r .running) in
-      record { history = r .history; at = at; reads = r .reads; few = omega (arith, r .count); running = k; promise = promised (r .history ++ g) t k; ends = a ∙ r .refusals }
+      record { history = r .history; at = at; reads = r .reads; few = omega (arith, r .count); steps = q ∙ r .steps; running = k; promise = promised (r .history ++ g) t k; ends = a ∙ r .refusals }
 
 -- the rest of a slice
 pub rest-is : (at : ℕ) (tape : List ℕ) → take (length tape - at) (drop at tape) ≡ drop at tape

@@ -58,8 +58,8 @@ pub fn run<F: Field, S: System<F>>(
     requires { ⌜ S·System .sound (now circuit .system) ⌝ }
     ensures still { λ _. ⌜ S·System .sound (now (circuit .exit) .system) ⌝ }
     ensures adds { λ _. ⌜ Adds (S·System .meaning (now (circuit .entry) .system)) (S·System .stored (now (circuit .entry) .system)) (S·System .meaning (now (circuit .exit) .system)) (S·System .stored (now (circuit .exit) .system)) ⌝ }
-    ensures runs { λ r. ⌜ ((g : History) → Running (F·Field .modulus) g (state-of (S·System .meaning) (now (circuit .entry))) → Taped (F·Field .modulus) most (now (tape .entry)) g (state-of (S·System .meaning) (now (circuit .exit))) r (vec-items (now (refused .entry))) (vec-items (now (refused .exit)))) ⌝ }
-    ensures fresh { λ r. ⌜ (Fresh (S·System .meaning (now (circuit .entry) .system)) → held-by (now (circuit .entry) .book) ≡ [] → Taped (F·Field .modulus) most (now (tape .entry)) [] (state-of (S·System .meaning) (now (circuit .exit))) r (vec-items (now (refused .entry))) (vec-items (now (refused .exit)))) ⌝ }
+    ensures runs { λ r. ⌜ ((g : History) → Running (F·Field .modulus) g (state-of (S·System .meaning) (now (circuit .entry))) → Taped (F·Field .modulus) most (now (tape .entry)) g (state-of (S·System .meaning) (now (circuit .entry))) (state-of (S·System .meaning) (now (circuit .exit))) r (vec-items (now (refused .entry))) (vec-items (now (refused .exit)))) ⌝ }
+    ensures fresh { λ r. ⌜ (Fresh (S·System .meaning (now (circuit .entry) .system)) → held-by (now (circuit .entry) .book) ≡ [] → Taped (F·Field .modulus) most (now (tape .entry)) [] (state-of (S·System .meaning) (now (circuit .entry))) (state-of (S·System .meaning) (now (circuit .exit))) r (vec-items (now (refused .entry))) (vec-items (now (refused .exit)))) ⌝ }
 {
     let mut at: usize = 0;
     let mut count: u32 = 0;

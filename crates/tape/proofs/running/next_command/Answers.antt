@@ -1,6 +1,8 @@
 use mathlib.Core.Path.{_≡_, refl, sym, ap, _∙_}
 use borrow.Author.Needs.{needs}
-use Rattle.std.specs.declared.result.Result.the-variants.{Err}
+use Rattle.std.specs.declared.result.Result.{Result}
+use Rattle.command.specs.declared.fault.TapeFault.{TapeFault}
+use Rattle.readings.specs.State.{State}
 use Rattle.std.specs.Of.Vec.{vec-items}
 use Rattle.readings.specs.Runs.{decided}
 use Rattle.tape.specs.State.{state-of}
@@ -23,5 +25,6 @@ returns-in-Err g c =
               st .running,
               noted (c .args .number) (decided (d .command) s) (c .in-Err .fault) (c .refusal-in-Err .result) (vec-items (c .args .refused .now)) (vec-items (c .reserve .last .self)) (vec-items (c .push-reserved-in-Err .last .self)) (st .outcome) (c .refusal-in-Err .ensures) (c .reserve .ensures .items) (c .push-reserved-in-Err .ensures .items),
             ),
+        ap (λ (z : Result (Unit {0}) TapeFault × State). z .1) (sym (c .in-Err .ensures tt .does)),
       );
     }

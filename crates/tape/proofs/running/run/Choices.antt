@@ -13,7 +13,7 @@ Inv-loop-count g l =
     × (l .count ≤ l .at) × (l .at ≤ length (l .tape)) × (l .count ≤ l .most)
     × Adds (g .S·System .meaning (l .entry .circuit .system)) (g .S·System .stored (l .entry .circuit .system)) (g .S·System .meaning (l .circuit .system)) (g .S·System .stored (l .circuit .system))
     × ((h : History) → Running (g .F·Field .modulus) h (state-of (g .S·System .meaning) (l .entry .circuit))
-    → Progress (g .F·Field .modulus) (l .tape) h (state-of (g .S·System .meaning) (l .circuit)) (l .at) (l .count) (vec-items (l .entry .refused)) (vec-items (l .refused)))
+    → Progress (g .F·Field .modulus) (l .tape) h (state-of (g .S·System .meaning) (l .entry .circuit)) (state-of (g .S·System .meaning) (l .circuit)) (l .at) (l .count) (vec-items (l .entry .refused)) (vec-items (l .refused)))
 
 abbrev pub μ-loop-count : given.MeasureT-loop-count
 μ-loop-count g l = l .most - l .count
