@@ -5,6 +5,7 @@ use field::ResidueField;
 use printing::PrintFault;
 use printing::print;
 use std::io;
+use std::io::ErrorKind;
 use std::io::Read;
 use systems::Rooms;
 
@@ -24,7 +25,7 @@ fn main(rt: LibcRuntime) -> io::Result<()> {
     rt.stdin().take(4096).read_to_end(&mut tape)?;
     match print::<F101>(heap, rooms(), 4096, 4096, &tape) {
         Ok(text) => rt.print(text),
-        Err(PrintFault::Memory) => rt.eprintln("rows101: memory is wanting"),
-        Err(PrintFault::Open(_)) => rt.eprintln("rows101: a room is too large"),
+        Err(PrintFault::Memory) => Err(ErrorKind::OutOfMemory.into()),
+        Err(PrintFault::Open(_)) => Err(ErrorKind::InvalidInput.into()),
     }
 }
