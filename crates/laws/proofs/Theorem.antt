@@ -167,7 +167,7 @@ module _ (p : ℕ) (above : 1 < p) {Cmd Answer : Type 0} (num : Val → Answer �
   module _ (local : (h : There) (ρ σ : Val) → Agree h ρ σ → (o : Answer) → Known h o → num σ o ≡ num ρ o)
       (wider : (h k : There) → Wider h k → (o : Answer) → Known h o → Known k o)
       (script : Cmd → List Answer → Script (List Answer)) (Pre S : Cmd → List ℕ → Type 0) (e : Cmd → List ℕ → List ℕ)
-      (law : (c : Cmd) → Law p (lists num) (lists num) (script c) (Pre c) (Reading c) (S c) (e c))
+      (lawful : (c : Cmd) → Law p (lists num) (lists num) (script c) (Pre c) (Reading c) (S c) (e c))
       (names : (c : Cmd) (bk : List Answer) (h : There) → Constants h → Each (Known h) bk → Names h (script c bk) (λ k os. Each (Known k) os))
       (tidy : (c : Cmd) (bk : List Answer) → Tidy p (script c bk))
       (kinds : (c : Cmd) (bk os : List Answer) (m n : Meaning) → run p (script c bk) m ≡ (Ok os, n) → (old new : List ℕ) → Along Kind bk old → length new ≡ length os → Reading c old new → Along Kind os new)
@@ -191,7 +191,7 @@ module _ (p : ℕ) (above : 1 < p) {Cmd Answer : Type 0} (num : Val → Answer �
         kept q = sym (run-grows p (script c bk) m n os ran .keeps-is) ∙ q
 
         promises : Promises p (lists num) (lists num) (Pre c) (Reading c) bk m n os
-        promises = law-runs p above (lists num) (lists num) (script c) (Pre c) (Reading c) (S c) (e c) (law c) bk m n os (k .proper) (λ ρ σ a. nums-same num Known local (has m) ρ σ a bk (k .book)) ran
+        promises = law-runs p above (lists num) (lists num) (script c) (Pre c) (Reading c) (S c) (e c) (lawful c) bk m n os (k .proper) (λ ρ σ a. nums-same num Known local (has m) ρ σ a bk (k .book)) ran
 
         known : (xs : List ℕ) → Obeys Reading h xs → Pre c xs
         known xs o = pre c h bk os m n ran xs (k .kinds xs o) o
