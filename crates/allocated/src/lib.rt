@@ -1,3 +1,4 @@
+#![tactic(auto)]
 // Bits that are variables of a system: loose, and forced by a row.
 mod allocated;
 mod gate;

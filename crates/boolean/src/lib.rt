@@ -1,3 +1,4 @@
+#![tactic(auto)]
 // Bits of a circuit, constants folded, and the calls on them as gadgets.
 mod bits;
 mod boolean;

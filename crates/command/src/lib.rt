@@ -1,3 +1,5 @@
+#![tactic(auto)]
+
 mod answers;
 mod checking;
 mod commands;

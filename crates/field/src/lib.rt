@@ -1,3 +1,5 @@
+#![tactic(auto)]
+
 ghost use Rattle.std.specs.Prelude.{◌≡◌, ℕ, ◌+◌, ◌-◌, ◌*◌, ◌%◌, MatchOption, ◌==◌};
 ghost use Rattle.arith.specs.Number.{residue};
 ghost use Rattle.field.specs.Laws.{FieldLaws, OddPrime};
@@ -84,7 +86,7 @@ where
 
     ghost coded = { λ x. x.code };
 
-    ghost laws = { residue_laws P vouched };
+    ghost laws = { residue_laws P ⟦<Residue<P> as IsPrime<P>>⟧.vouched };
 
     fn characteristic() -> u32 {
         P

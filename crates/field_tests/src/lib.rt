@@ -1,3 +1,5 @@
+#![tactic(auto)]
+
 #[cfg(test)]
 mod tests {
     use field::{F101, Field};

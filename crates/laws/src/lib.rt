@@ -1,3 +1,5 @@
+#![tactic(auto)]
+
 ghost use Rattle.laws.specs.Claims.{Bills};
 
 /// What is promised of bills stands: see `Bills`.

@@ -1,3 +1,4 @@
+#![tactic(auto)]
 // A tape's run from nothing, and its text.
 ghost use Rattle.std.specs.Prelude.{◌≡◌, string_bytes, MatchResult};
 ghost use Rattle.printing.specs.declared.PrintFault.TheVariants.{Open as unopened, Memory as wanting};

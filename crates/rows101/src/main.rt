@@ -1,3 +1,4 @@
+#![tactic(auto)]
 // Reads a tape from standard input, runs it over the field with 101 elements, and prints the text of the run.
 use field::F101;
 use printing::{PrintFault, print};

@@ -1,3 +1,5 @@
+#![tactic(auto)]
+
 mod keeping;
 mod lent;
 mod valued;

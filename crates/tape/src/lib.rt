@@ -1,3 +1,5 @@
+#![tactic(auto)]
+
 mod book;
 mod circuit;
 mod executing;

@@ -1,3 +1,5 @@
+#![tactic(auto)]
+
 pub mod merge;
 pub mod read;
 pub mod scan;

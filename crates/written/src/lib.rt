@@ -1,3 +1,5 @@
+#![tactic(auto)]
+
 ghost use Rattle.std.specs.Prelude.{◌≡◌, ℕ, ◌<◌, ◌≤◌, true, false, length, nat_le, slice_index};
 ghost use Rattle.relations.specs.declared.term.Variable.{Variable};
 ghost use Rattle.relations.specs.Written.{expanded};

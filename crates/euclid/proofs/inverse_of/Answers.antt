@@ -23,6 +23,6 @@ returns c =
     let e = ended c.args.p c.args.a c.loop-r1.r0 c.loop-r1.r1 _ _ c.requires.prime c.loop-r1-test.false c.loop-r1.invariant in
     record {
       below =
-          subst (λ (x : ℕ). x < c.args.p) (sym c.residue-of.ensures) (residue_below c.args.p _ (omega (arith, c.requires.prime.0)));
-      is = ap (λ (x : ℕ). (c.args.a * x) % c.args.p) c.residue-of.ensures ∙ e;
+          subst (λ (x : ℕ). x < c.args.p) (sym c.residue_of.ensures) (residue_below c.args.p _ (omega (arith, c.requires.prime.0)));
+      is = ap (λ (x : ℕ). (c.args.a * x) % c.args.p) c.residue_of.ensures ∙ e;
     }

@@ -4,14 +4,14 @@ use Rattle.std.proofs.lemmas.Int.{to_z-of_z}
 use Rattle.euclid.proofs.Signs.{step_fits, mul_fits}
 use Rattle.euclid.proofs.stepped.Goals as goal
 
-pub overflow-mul-result : goal.overflow-mul-result
-overflow-mul-result c =
+pub overflow_mul-result : goal.overflow_mul-result
+overflow_mul-result c =
     let q : to_z w64 c.args.q ≡ pos c.args.q = omega (arith, ints) in
     let f : SFits w64 c.args.t1 = c.ranges.t1 in
     simp (to_z-of_z, q) (mul_fits c.args.q c.args.t1 c.requires.second)
 
-pub overflow-sub-result : goal.overflow-sub-result
-overflow-sub-result c =
+pub overflow_sub-result : goal.overflow_sub-result
+overflow_sub-result c =
     let q : to_z w64 c.args.q ≡ pos c.args.q = omega (arith, ints) in
     let f : SFits w64 c.args.t1 = c.ranges.t1 in
     let f0 : SFits w64 c.args.t0 = c.ranges.t0 in
