@@ -4,19 +4,19 @@ use Rattle.relations.specs.declared.term.Term.{Term}
 use Rattle.relations.specs.Sum.{total, handed}
 use Rattle.words.proofs.Steps.{total_same, total_other}
 use Rattle.words.proofs.merge.coefficient.Goals as goal
-use Rattle.words.proofs.merge.coefficient.Goals.{then-code-of-c, else-code-of-c}
+use Rattle.words.proofs.merge.coefficient.Goals.{then-code_of-c, else-code_of-c}
 
 pub loop-t-preserved : goal.loop-t-preserved
-loop-t-preserved c = elim c.if-code-of-c.branch [
-  | then-code-of-c w ↦ (
+loop-t-preserved c = elim c.if-code_of-c.branch [
+  | then-code_of-c w ↦ (
     search rules,
     ap (λ (a : ℕ). total c.args.p a (handed (drop (c.loop-t.t-index + 1) c.args.ts.now)) c.args.c) w.a-is
-        ∙ sym (total_same _ _ _ _ _ _ _ c.loop-t-test.true (sym c.code-of.ensures ∙ w.if-code-of-c.true) w.counted-at-k.ensures) ∙ c.loop-t.invariant.1,
+        ∙ sym (total_same _ _ _ _ _ _ _ c.loop-t-test.true (sym c.code_of.ensures ∙ w.if-code_of-c.true) w.counted_at-k.ensures) ∙ c.loop-t.invariant.1,
   )
-  | else-code-of-c w ↦ (
+  | else-code_of-c w ↦ (
     search rules,
     ap (λ (a : ℕ). total c.args.p a (handed (drop (c.loop-t.t-index + 1) c.args.ts.now)) c.args.c) w.a-is
-        ∙ sym (total_other _ _ _ _ _ _ c.loop-t-test.true (λ e. w.if-code-of-c.false (c.code-of.ensures ∙ e))) ∙ c.loop-t.invariant.1,
+        ∙ sym (total_other _ _ _ _ _ _ c.loop-t-test.true (λ e. w.if-code_of-c.false (c.code_of.ensures ∙ e))) ∙ c.loop-t.invariant.1,
   )
 ]
 

@@ -2,28 +2,28 @@ use Rattle.std.proofs.Common.{◌≡◌, ℕ, ◌-◌, ◌<◌, ◌≤◌, sym, 
 use Rattle.words.proofs.Cuts.{Last, last, seen_step, seen_fail}
 use Rattle.words.proofs.scan.combinations_in.Goals as goal
 
-pub length-at-len-requires : goal.length-at-len-requires
-length-at-len-requires c =
+pub length_at-len-requires : goal.length_at-len-requires
+length_at-len-requires c =
     let l : Last c.loop-left.left c.loop-left.at c.args.words.now = last _ _ _ c.loop-left-test.true c.loop-left.invariant.1 in
     (l.some, omega (arith, c.loop-left.invariant.0, c.requires.1), omega (arith, c.loop-left.invariant.0, c.requires.2))
 
-pub overflow-sub-at : goal.overflow-sub-at
-overflow-sub-at c =
+pub overflow_sub-at : goal.overflow_sub-at
+overflow_sub-at c =
     let l : Last c.loop-left.left c.loop-left.at c.args.words.now = last _ _ _ c.loop-left-test.true c.loop-left.invariant.1 in
     omega (arith, l.some)
 
-pub overflow-sub-at-in-loop-left : goal.overflow-sub-at-in-loop-left
-overflow-sub-at-in-loop-left c =
+pub overflow_sub-at-in-loop-left : goal.overflow_sub-at-in-loop-left
+overflow_sub-at-in-loop-left c =
     let l : Last c.loop-left.left c.loop-left.at c.args.words.now = last _ _ _ c.loop-left-test.true c.loop-left.invariant.1 in
-    omega (arith, l.long, c.length-at-len.ensures)
+    omega (arith, l.long, c.length_at-len.ensures)
 
-pub are-in-requires : goal.are-in-requires
-are-in-requires c =
+pub are_in-requires : goal.are_in-requires
+are_in-requires c =
     let l : Last c.loop-left.left c.loop-left.at c.args.words.now = last _ _ _ c.loop-left-test.true c.loop-left.invariant.1 in
-    (omega (arith, l.long, c.length-at-len.ensures, c.loop-left.invariant.0, c.requires.1), omega (arith, l.long, c.length-at-len.ensures, c.loop-left.invariant.0, c.requires.2))
+    (omega (arith, l.long, c.length_at-len.ensures, c.loop-left.invariant.0, c.requires.1), omega (arith, l.long, c.length_at-len.ensures, c.loop-left.invariant.0, c.requires.2))
 
-pub returns-then-not-are-in : goal.returns-then-not-are-in
-returns-then-not-are-in c = seen_fail c.args.inputs c.args.witnesses c.args.places _ _ _ _ c.args.words.now _ c.loop-left-test.true c.length-at-len.ensures c.if-not-are-in.ensures c.loop-left.invariant
+pub returns-then-not-are_in : goal.returns-then-not-are_in
+returns-then-not-are_in c = seen_fail c.args.inputs c.args.witnesses c.args.places _ _ _ _ c.args.words.now _ c.loop-left-test.true c.length_at-len.ensures c.if-not-are_in.ensures c.loop-left.invariant
 
 pub loop-left-preserved : goal.loop-left-preserved
-loop-left-preserved c = seen_step c.args.inputs c.args.witnesses c.args.places _ _ _ _ c.args.words.now _ c.loop-left-test.true c.length-at-len.ensures c.if-not-are-in.ensures c.loop-left.invariant
+loop-left-preserved c = seen_step c.args.inputs c.args.witnesses c.args.places _ _ _ _ c.args.words.now _ c.loop-left-test.true c.length_at-len.ensures c.if-not-are_in.ensures c.loop-left.invariant

@@ -6,23 +6,23 @@ use Rattle.words.proofs.scan.end_of.Goals as goal
 pub loop-left-init : goal.loop-left-init
 loop-left-init c = cut_start _ _ _ _ c.requires.1 c.requires.0
 
-pub length-at-len-requires : goal.length-at-len-requires
-length-at-len-requires c =
+pub length_at-len-requires : goal.length_at-len-requires
+length_at-len-requires c =
     let l : Last c.loop-left.left c.loop-left.end c.args.words.now = last _ _ _ (omega arith) c.loop-left.invariant.chain in
     (l.some, omega (arith, c.loop-left.invariant.low, c.requires.2), omega (arith, c.loop-left.invariant.low, c.requires.3))
 
-pub overflow-sub-end : goal.overflow-sub-end
-overflow-sub-end c =
+pub overflow_sub-end : goal.overflow_sub-end
+overflow_sub-end c =
     let l : Last c.loop-left.left c.loop-left.end c.args.words.now = last _ _ _ (omega arith) c.loop-left.invariant.chain in
     omega (arith, l.some)
 
-pub overflow-sub-end-in-loop-left : goal.overflow-sub-end-in-loop-left
-overflow-sub-end-in-loop-left c =
+pub overflow_sub-end-in-loop-left : goal.overflow_sub-end-in-loop-left
+overflow_sub-end-in-loop-left c =
     let l : Last c.loop-left.left c.loop-left.end c.args.words.now = last _ _ _ (omega arith) c.loop-left.invariant.chain in
-    omega (arith, l.long, c.length-at-len.ensures)
+    omega (arith, l.long, c.length_at-len.ensures)
 
 pub loop-left-preserved : goal.loop-left-preserved
-loop-left-preserved c = take_step _ _ _ _ _ _ _ c.loop-left-test.true c.length-at-len.ensures c.loop-left.invariant
+loop-left-preserved c = take_step _ _ _ _ _ _ _ c.loop-left-test.true c.length_at-len.ensures c.loop-left.invariant
 
 pub returns : goal.returns
 returns c =

@@ -6,7 +6,7 @@ returns-in-And g c =
     record {
       still = search rules;
       does = search rules;
-      adds = λ l u h. c.forced.ensures.adds l u (c.in-ok-w.ensures.adds l u h);
+      adds = λ l u h. c.forced.ensures.adds l u (c.in_ok-w.ensures.adds l u h);
     }
 
 pub returns-in-Or : goal.returns-in-Or
@@ -14,7 +14,7 @@ returns-in-Or g c =
     record {
       still = search rules;
       does = search rules;
-      adds = λ l u h. c.forced-in-Or.ensures.adds l u (c.in-ok-w.ensures.adds l u h);
+      adds = λ l u h. c.forced-in-Or.ensures.adds l u (c.in_ok-w.ensures.adds l u h);
     }
 
 pub returns-in-Xor : goal.returns-in-Xor
@@ -22,5 +22,5 @@ returns-in-Xor g c =
     record {
       still = search rules;
       does = search rules;
-      adds = λ l u h. c.forced-in-Xor.ensures.adds l u (c.in-ok-w.ensures.adds l u h);
+      adds = λ l u h. c.forced-in-Xor.ensures.adds l u (c.in_ok-w.ensures.adds l u h);
     }

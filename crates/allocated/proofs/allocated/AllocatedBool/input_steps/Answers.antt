@@ -6,5 +6,5 @@ returns g c =
     record {
       still = search rules;
       does = search rules;
-      adds = λ l u h. c.enforce-boolean.ensures.adds l u (c.in-ok-variable.ensures.adds l u h);
+      adds = λ l u h. c.enforce_boolean.ensures.adds l u (c.in_ok-variable.ensures.adds l u h);
     }

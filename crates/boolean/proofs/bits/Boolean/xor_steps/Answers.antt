@@ -10,6 +10,6 @@ returns-in-Var-Var g c =
     let p = g.F.Field.modulus in
     record {
       still = search rules;
-      does = var_runs p (gate_script Xor p c.in-Var-Var.a c.in-Var-Var.b) (xor_script p c.args.self c.args.other) _ _ _ _ (λ i. xor_script p (c.in-Var-Var.is-0 i) (c.in-Var-Var.is-1 i)) c.gate-steps.ensures.does c.as_var.ensures;
-      adds = c.gate-steps.ensures.adds;
+      does = var_runs p (gate_script Xor p c.in-Var-Var.a c.in-Var-Var.b) (xor_script p c.args.self c.args.other) _ _ _ _ (λ i. xor_script p (c.in-Var-Var.is-0 i) (c.in-Var-Var.is-1 i)) c.gate_steps.ensures.does c.as_var.ensures;
+      adds = c.gate_steps.ensures.adds;
     }
