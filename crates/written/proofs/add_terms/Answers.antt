@@ -8,4 +8,4 @@ pub loop-i-init : goal.loop-i-init
 loop-i-init c = spread_none _ _ _ _ c.requires.below
 
 pub loop-i-preserved : goal.loop-i-preserved
-loop-i-preserved c = spread_more _ _ _ c.args.start c.loop-i.i c.args.terms.now _ _ _ c.loop-i.invariant c.add-term.ensures
+loop-i-preserved c = spread_more _ _ _ c.args.start c.loop-i.i c.args.terms.now _ _ _ c.loop-i.invariant c.add_term.ensures

@@ -6,35 +6,35 @@ use Rattle.written.proofs.replace_combinations.Goals as goal
 pub loop-left-init : goal.loop-left-init
 loop-left-init c = replacing_start _ _ _ _ c.requires.combos.chain c.requires.below
 
-pub length-at-len-requires : goal.length-at-len-requires
-length-at-len-requires c =
+pub length_at-len-requires : goal.length_at-len-requires
+length_at-len-requires c =
     let l : Last c.loop-left.left c.loop-left.end c.args.terms.now = last _ _ _ (omega (arith, c.loop-left-test.true)) c.loop-left.invariant.chain in
     (l.some, omega (arith, c.loop-left.invariant.low, c.requires.combos.long), omega (arith, c.loop-left.invariant.low, c.requires.room.small.front))
 
-pub overflow-sub-end : goal.overflow-sub-end
-overflow-sub-end c =
+pub overflow_sub-end : goal.overflow_sub-end
+overflow_sub-end c =
     let l : Last c.loop-left.left c.loop-left.end c.args.terms.now = last _ _ _ (omega (arith, c.loop-left-test.true)) c.loop-left.invariant.chain in
     omega (arith, l.some)
 
-pub overflow-sub-end-in-loop-left : goal.overflow-sub-end-in-loop-left
-overflow-sub-end-in-loop-left c =
+pub overflow_sub-end-in-loop-left : goal.overflow_sub-end-in-loop-left
+overflow_sub-end-in-loop-left c =
     let l : Last c.loop-left.left c.loop-left.end c.args.terms.now = last _ _ _ (omega (arith, c.loop-left-test.true)) c.loop-left.invariant.chain in
-    omega (arith, l.long, c.length-at-len.ensures)
+    omega (arith, l.long, c.length_at-len.ensures)
 
-pub add-terms-requires : goal.add-terms-requires
-add-terms-requires c =
+pub add_terms-requires : goal.add_terms-requires
+add_terms-requires c =
     let l : Last c.loop-left.left c.loop-left.end c.args.terms.now = last _ _ _ (omega (arith, c.loop-left-test.true)) c.loop-left.invariant.chain in
     record {
       room = record { modulus = c.requires.room.modulus; small = c.requires.room.small; long = omega (arith, c.requires.room.long) };
       below = c.loop-left.invariant.below;
       lies = record {
-        long = omega (arith, l.long, c.length-at-len.ensures, c.loop-left.invariant.low, c.requires.combos.long);
-        limit = omega (arith, l.long, c.length-at-len.ensures, c.loop-left.invariant.low, c.requires.room.small.front);
+        long = omega (arith, l.long, c.length_at-len.ensures, c.loop-left.invariant.low, c.requires.combos.long);
+        limit = omega (arith, l.long, c.length_at-len.ensures, c.loop-left.invariant.low, c.requires.room.small.front);
       };
     }
 
 pub loop-left-preserved : goal.loop-left-preserved
-loop-left-preserved c = replacing_step _ _ c.loop-left.left c.loop-left.end c.length-at-len.result _ c.args.terms.now _ _ _ c.requires.room.modulus (omega (arith, c.loop-left-test.true)) c.length-at-len.ensures refl c.add-terms.ensures c.loop-left.invariant
+loop-left-preserved c = replacing_step _ _ c.loop-left.left c.loop-left.end c.length_at-len.result _ c.args.terms.now _ _ _ c.requires.room.modulus (omega (arith, c.loop-left-test.true)) c.length_at-len.ensures refl c.add_terms.ensures c.loop-left.invariant
 
 pub returns : goal.returns
 returns c = record {

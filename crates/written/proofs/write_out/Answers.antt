@@ -7,10 +7,10 @@ use Rattle.written.proofs.write_out.Goals as goal
 
 pub returns : goal.returns
 returns c =
-    let o : Over c.args.counts (written_out c.args.p c.args.counts c.args.start c.args.len c.args.terms.now) c.args.out.now c.replace-combinations.new.out =
+    let o : Over c.args.counts (written_out c.args.p c.args.counts c.args.start c.args.len c.args.terms.now) c.args.out.now c.replace_combinations.new.out =
     over _ _ _ _
-    (c.replace-combinations.ensures.holds _ (spread_once _ _ _ _ _ c.requires.modulus c.clear.ensures.zeros c.add-terms.ensures))
-    (λ j h. c.replace-combinations.ensures.beyond j h ∙ c.add-terms.ensures.beyond j h ∙ c.clear.ensures.beyond j h)
+    (c.replace_combinations.ensures.holds _ (spread_once _ _ _ _ _ c.requires.modulus c.clear.ensures.zeros c.add_terms.ensures))
+    (λ j h. c.replace_combinations.ensures.beyond j h ∙ c.add_terms.ensures.beyond j h ∙ c.clear.ensures.beyond j h)
     in
     record {
       room = search rules;

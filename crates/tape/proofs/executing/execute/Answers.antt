@@ -18,13 +18,13 @@ returns g c =
     let p = g.F.Field.modulus in
     let l = g.F.Field.laws in
     let s = state_of g.S.System.meaning c.args.circuit.now in
-    let t = state_of g.S.System.meaning c.execute-steps.new.circuit in
-    let e = c.execute-steps.ensures in
+    let t = state_of g.S.System.meaning c.execute_steps.new.circuit in
+    let e = c.execute_steps.ensures in
     record {
       still = e.still;
       does = e.does;
       adds = e.adds;
       leaves = e.leaves;
-      unchanged = same p l.prime (above_two p l.prime l.odd) c.args.command s t c.execute-steps.result e.does;
-      runs = λ h k. stepped p l.prime (above_two p l.prime l.odd) h c.args.command s t c.execute-steps.result e.does k;
+      unchanged = same p l.prime (above_two p l.prime l.odd) c.args.command s t c.execute_steps.result e.does;
+      runs = λ h k. stepped p l.prime (above_two p l.prime l.odd) h c.args.command s t c.execute_steps.result e.does k;
     }

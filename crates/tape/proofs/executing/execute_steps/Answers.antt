@@ -11,22 +11,22 @@ use Rattle.readings.specs.State.{state}
 use Rattle.tape.proofs.Executes.{has_place, accepted, refused}
 use Rattle.tape.proofs.executing.execute_steps.Goals as goal
 
-pub returns-in-err-answer : goal.returns-in-err-answer
-returns-in-err-answer g c =
+pub returns-in_err-answer : goal.returns-in_err-answer
+returns-in_err-answer g c =
     let p = g.F.Field.modulus in
     let b = c.args.circuit.now.book in
     let m = g.S.System.meaning c.args.circuit.now.system in
     let n = g.S.System.meaning c.perform.new.cs in
     let ok : ◌≡◌ {A = Result (Unit {0}) TapeFault} (Ok tt) (over (λ _. tt) (checked c.args.command (kinds (held_by b)) (places_of b))) =
-    c.in-ok-check.ensures ∙ ap (λ k. over (λ _. tt) (checked c.args.command (kinds (held_by b)) k)) c.places-places.ensures in
-    let ran = ap (λ (a : Action). whole (run p (action_script p a)) m) (sym c.resolve-action.ensures) ∙ c.in-err-answer.ensures.does in
-    let q = err_from_is_err_and c.from-residual-in-err-answer.result c.from-residual-in-err-answer.ensures.1 in
+    c.in_ok-check.ensures ∙ ap (λ k. over (λ _. tt) (checked c.args.command (kinds (held_by b)) k)) c.places-places.ensures in
+    let ran = ap (λ (a : Action). whole (run p (action_script p a)) m) (sym c.resolve-action.ensures) ∙ c.in_err-answer.ensures.does in
+    let q = err_from_is_err_and c.from_residual-in_err-answer.result c.from_residual-in_err-answer.ensures.1 in
     let is = q.1 ∙ ap Err q.2 in
     record {
       still = search rules;
-      does = refused p c.args.command m n (held_by b) c.in-err-answer.field-0.0 (places_of b) ok ran ∙ ap (λ r. (r, state n (held_by b) (places_of b))) (sym is);
+      does = refused p c.args.command m n (held_by b) c.in_err-answer.field-0.0 (places_of b) ok ran ∙ ap (λ r. (r, state n (held_by b) (places_of b))) (sym is);
       adds = c.perform.ensures.adds;
-      leaves = subst (λ (r : Result (Unit {0}) TapeFault). Leaves r (g.S.System.stored c.args.circuit.now.system) (g.S.System.stored c.perform.new.cs)) (sym is) c.in-err-answer.ensures.leaves;
+      leaves = subst (λ (r : Result (Unit {0}) TapeFault). Leaves r (g.S.System.stored c.args.circuit.now.system) (g.S.System.stored c.perform.new.cs)) (sym is) c.in_err-answer.ensures.leaves;
     }
 
 pub returns : goal.returns
@@ -36,9 +36,9 @@ returns g c =
     let m = g.S.System.meaning c.args.circuit.now.system in
     let n = g.S.System.meaning c.perform.new.cs in
     let ok : ◌≡◌ {A = Result (Unit {0}) TapeFault} (Ok tt) (over (λ _. tt) (checked c.args.command (kinds (held_by b)) (places_of b))) =
-    c.in-ok-check.ensures ∙ ap (λ k. over (λ _. tt) (checked c.args.command (kinds (held_by b)) k)) c.places-places.ensures in
-    let ran = ap (λ (a : Action). whole (run p (action_script p a)) m) (sym c.resolve-action.ensures) ∙ c.in-ok-answer.ensures.does in
-    let x = c.in-ok-answer.answer in
+    c.in_ok-check.ensures ∙ ap (λ k. over (λ _. tt) (checked c.args.command (kinds (held_by b)) k)) c.places-places.ensures in
+    let ran = ap (λ (a : Action). whole (run p (action_script p a)) m) (sym c.resolve-action.ensures) ∙ c.in_ok-answer.ensures.does in
+    let x = c.in_ok-answer.answer in
     let there : c.push.result ≡ true = c.push.ensures.pushed ∙ lt-ltb _ _ (has_place c.args.command (held_by b) (places_of b) ok) in
     let holds : held_by c.push.new.self ≡ held_by b ++ (x ∷ []) = c.push.ensures.holds ∙ ap (λ (t : Bool). cond t (held_by b ++ (x ∷ [])) (held_by b)) there in
     record {

@@ -17,22 +17,22 @@ returns-then-row-self c =
       beyond = λ e. let z : ◌≡◌ {A = ℕ} 0 1 = cc in absurd (omega arith);
     }
 
-pub write-out-requires : goal.write-out-requires
-write-out-requires c =
+pub write_out-requires : goal.write_out-requires
+write_out-requires c =
     part_readable (state c.args.self.now) c.args.part c.args.row c.place-at.result c.outline.result c.place-at.ensures c.outline.ensures c.requires c.if-row-self.false
 
 pub returns : goal.returns
 returns c =
     let s = state c.args.self.now in
-    let lies : (c.write-out.result ≡ true) → Outlined s c.args.part c.args.row c.args.out.now c.write-out.new.out =
-    λ e. outlined s c.args.part c.args.row c.place-at.result c.outline.result c.args.out.now c.write-out.new.out c.place-at.ensures c.outline.ensures c.if-row-self.false c.write-out.auto.out (leb-true _ _ (sym c.write-out.ensures.room ∙ e)) (c.write-out.ensures.written e)
+    let lies : (c.write_out.result ≡ true) → Outlined s c.args.part c.args.row c.args.out.now c.write_out.new.out =
+    λ e. outlined s c.args.part c.args.row c.place-at.result c.outline.result c.args.out.now c.write_out.new.out c.place-at.ensures c.outline.ensures c.if-row-self.false c.write_out.auto.out (leb-true _ _ (sym c.write_out.ensures.room ∙ e)) (c.write_out.ensures.written e)
     in
     record {
       done =
-          c.write-out.ensures.room
+          c.write_out.ensures.room
           ∙ ap (λ (n : Counts). leb (cells n) (length c.args.out.now)) c.outline.ensures
           ∙ sym (ap (λ (b : Bool). b && leb (working s) (length c.args.out.now)) (lt-ltb c.args.row _ (omega (arith, rows_long s, c.if-row-self.false))));
-      refused = c.write-out.ensures.refused;
+      refused = c.write_out.ensures.refused;
       written = λ e. (lies e).written;
       beyond = λ e. (lies e).beyond;
     }

@@ -15,23 +15,23 @@ returns-then-k-self c = long_lcs (state c.args.self.now) c.args.i c.args.w c.arg
 pub returns-then-r-self : goal.returns-then-r-self
 returns-then-r-self c = long_rows (state c.args.self.now) c.args.i c.args.w c.args.k c.args.r c.if-i-self.false c.if-w-self.false c.if-k-self.false c.if-r-self.true
 
-pub returns-then-not-combinations-in : goal.returns-then-not-combinations-in
-returns-then-not-combinations-in c = names_cut (state c.args.self.now) c.args.i c.args.w c.args.k c.args.r c.end-of-end.result c.if-i-self.false c.if-w-self.false c.if-k-self.false c.if-r-self.false c.end-of-end.ensures.cut c.end-of-end.ensures.chain c.if-not-combinations-in.ensures
+pub returns-then-not-combinations_in : goal.returns-then-not-combinations_in
+returns-then-not-combinations_in c = names_cut (state c.args.self.now) c.args.i c.args.w c.args.k c.args.r c.end_of-end.result c.if-i-self.false c.if-w-self.false c.if-k-self.false c.if-r-self.false c.end_of-end.ensures.cut c.end_of-end.ensures.chain c.if-not-combinations_in.ensures
 
-pub returns-then-not-rows-in : goal.returns-then-not-rows-in
-returns-then-not-rows-in c = verdict (state c.args.self.now) c.args.i c.args.w c.args.k c.args.r c.end-of-end.result true false c.if-i-self.false c.if-w-self.false c.if-k-self.false c.if-r-self.false c.end-of-end.ensures.cut c.end-of-end.ensures.chain c.if-not-combinations-in.ensures c.if-not-rows-in.ensures
+pub returns-then-not-rows_in : goal.returns-then-not-rows_in
+returns-then-not-rows_in c = verdict (state c.args.self.now) c.args.i c.args.w c.args.k c.args.r c.end_of-end.result true false c.if-i-self.false c.if-w-self.false c.if-k-self.false c.if-r-self.false c.end_of-end.ensures.cut c.end_of-end.ensures.chain c.if-not-combinations_in.ensures c.if-not-rows_in.ensures
 
 pub returns : goal.returns
 returns c = record {
   i_in = c.if-i-self.false;
   w_in = c.if-w-self.false;
   r_in = c.if-r-self.false;
-  below = c.end-of-end.ensures.low;
-  chain = c.end-of-end.ensures.chain;
-  tagged = c.end-of-end.ensures.tagged _ c.requires.tagged;
-  cut = c.end-of-end.ensures.cut;
-  low_is = c.floor-of.ensures;
-  combos_named = sym c.if-not-combinations-in.ensures;
-  rows_named = sym c.if-not-rows-in.ensures;
-  allowed = verdict (state c.args.self.now) c.args.i c.args.w c.args.k c.args.r c.end-of-end.result true true c.if-i-self.false c.if-w-self.false c.if-k-self.false c.if-r-self.false c.end-of-end.ensures.cut c.end-of-end.ensures.chain c.if-not-combinations-in.ensures c.if-not-rows-in.ensures;
+  below = c.end_of-end.ensures.low;
+  chain = c.end_of-end.ensures.chain;
+  tagged = c.end_of-end.ensures.tagged _ c.requires.tagged;
+  cut = c.end_of-end.ensures.cut;
+  low_is = c.floor_of.ensures;
+  combos_named = sym c.if-not-combinations_in.ensures;
+  rows_named = sym c.if-not-rows_in.ensures;
+  allowed = verdict (state c.args.self.now) c.args.i c.args.w c.args.k c.args.r c.end_of-end.result true true c.if-i-self.false c.if-w-self.false c.if-k-self.false c.if-r-self.false c.end_of-end.ensures.cut c.end_of-end.ensures.chain c.if-not-combinations_in.ensures c.if-not-rows_in.ensures;
 }

@@ -4,4 +4,4 @@ use Rattle.systems.proofs.Views.{has_is}
 use Rattle.systems.proofs.lent.Lent.has.Goals as goal
 
 pub returns : goal.returns
-returns c = c.is-there.ensures ∙ has_is (state c.args.self.now) c.args.variable c.requires
+returns c = c.is_there.ensures ∙ has_is (state c.args.self.now) c.args.variable c.requires

@@ -4,4 +4,4 @@ use Rattle.systems.proofs.Views.{has_all_is}
 use Rattle.systems.proofs.lent.Lent.has_all.Goals as goal
 
 pub returns : goal.returns
-returns c = c.are-there.ensures ∙ has_all_is (state c.args.self.now) c.args.ts.now c.requires
+returns c = c.are_there.ensures ∙ has_all_is (state c.args.self.now) c.args.ts.now c.requires

@@ -5,20 +5,20 @@ use Rattle.systems.specs.Held.{state}
 use Rattle.systems.proofs.Unmet.{met_is}
 use Rattle.systems.proofs.lent.Lent.row_met.Goals as goal
 
-pub worth-at-a-requires : goal.worth-at-a-requires
-worth-at-a-requires c =
+pub worth_at-a-requires : goal.worth_at-a-requires
+worth_at-a-requires c =
     let s = state c.args.self.now in
     let l : Lies s.term_room c.args.i s.row_words = lies s.term_room c.args.i s.count s.row_words c.requires.inside c.requires.fit.stack in
     record { fit = c.requires.fit; inside = l.a; named = (triple_each s.inputs s.witnesses s.front (row_at c.args.i s.row_words s.term_words) (row_each s.inputs s.witnesses s.front s.count c.args.i s.row_words s.term_words c.requires.inside c.requires.fit.rows_named)).0 }
 
-pub worth-at-b-requires : goal.worth-at-b-requires
-worth-at-b-requires c =
+pub worth_at-b-requires : goal.worth_at-b-requires
+worth_at-b-requires c =
     let s = state c.args.self.now in
     let l : Lies s.term_room c.args.i s.row_words = lies s.term_room c.args.i s.count s.row_words c.requires.inside c.requires.fit.stack in
     record { fit = c.requires.fit; inside = l.b; named = (triple_each s.inputs s.witnesses s.front (row_at c.args.i s.row_words s.term_words) (row_each s.inputs s.witnesses s.front s.count c.args.i s.row_words s.term_words c.requires.inside c.requires.fit.rows_named)).1 }
 
-pub worth-at-c-requires : goal.worth-at-c-requires
-worth-at-c-requires c =
+pub worth_at-c-requires : goal.worth_at-c-requires
+worth_at-c-requires c =
     let s = state c.args.self.now in
     let l : Lies s.term_room c.args.i s.row_words = lies s.term_room c.args.i s.count s.row_words c.requires.inside c.requires.fit.stack in
     record { fit = c.requires.fit; inside = l.c; named = (triple_each s.inputs s.witnesses s.front (row_at c.args.i s.row_words s.term_words) (row_each s.inputs s.witnesses s.front s.count c.args.i s.row_words s.term_words c.requires.inside c.requires.fit.rows_named)).2 }
@@ -26,5 +26,5 @@ worth-at-c-requires c =
 pub returns : goal.returns
 returns c =
     let s = state c.args.self.now in
-    ap (λ (x : ℕ). eqb x c.worth-at-c.result) c.multiply-add.ensures
-    ∙ met_is s.modulus c.worth-at-a.result c.worth-at-b.result c.worth-at-c.result _ _ _ c.worth-at-a.ensures c.worth-at-b.ensures c.worth-at-c.ensures
+    ap (λ (x : ℕ). eqb x c.worth_at-c.result) c.multiply_add.ensures
+    ∙ met_is s.modulus c.worth_at-a.result c.worth_at-b.result c.worth_at-c.result _ _ _ c.worth_at-a.ensures c.worth_at-b.ensures c.worth_at-c.ensures

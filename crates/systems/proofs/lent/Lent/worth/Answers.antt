@@ -6,11 +6,11 @@ use Rattle.systems.specs.Held.{state}
 use Rattle.systems.proofs.Views.{reads, has_all_in, worth_is, worth_below}
 use Rattle.systems.proofs.lent.Lent.worth.Goals as goal
 
-pub worth-of-requires : goal.worth-of-requires
-worth-of-requires c = let s = state c.args.self.now in (c.requires.fit.modulus, reads s c.requires.fit, has_all_in s c.args.ts.now c.requires.fit c.requires.there)
+pub worth_of-requires : goal.worth_of-requires
+worth_of-requires c = let s = state c.args.self.now in (c.requires.fit.modulus, reads s c.requires.fit, has_all_in s c.args.ts.now c.requires.fit c.requires.there)
 
 pub returns : goal.returns
 returns c =
     let s = state c.args.self.now in
-    let e = c.worth-of.ensures ∙ worth_is s.modulus s (handed c.args.ts.now) c.requires.fit (has_all_in s c.args.ts.now c.requires.fit c.requires.there) in
+    let e = c.worth_of.ensures ∙ worth_is s.modulus s (handed c.args.ts.now) c.requires.fit (has_all_in s c.args.ts.now c.requires.fit c.requires.there) in
     record { is = e; below = subst (λ (x : ℕ). x < s.modulus) (sym e) (worth_below s.modulus (λ n. assigned (view s) (decode n)) (handed c.args.ts.now) c.requires.fit.modulus) }

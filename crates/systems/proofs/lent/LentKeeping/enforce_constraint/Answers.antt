@@ -22,8 +22,8 @@ returns-then-self g c =
     subst (λ (p : ℕ). Done (enforce p c.args.a.now c.args.b.now c.args.c.now) s (Err RowsFull) s) c.requires.prime (row_full s c.args.a.now c.args.b.now c.args.c.now c.in-Ok.la c.in-Ok.lb c.in-Ok.lc c.requires.fit c.in-Ok.ensures c.if-self.true) in
     record { still = c.requires; does = d.does; adds = d.adds; leaves = d.leaves }
 
-pub add-row-requires : goal.add-row-requires
-add-row-requires g c =
+pub add_row-requires : goal.add_row-requires
+add_row-requires g c =
     let s = state c.args.self.now in
     let x : Sized s c.args.a.now c.args.b.now c.args.c.now c.in-Ok.la c.in-Ok.lb c.in-Ok.lc = c.in-Ok.ensures in
     record {
@@ -35,10 +35,10 @@ pub returns-else-self : goal.returns-else-self
 returns-else-self g c =
     let s = state c.args.self.now in
     let z : Sized s c.args.a.now c.args.b.now c.args.c.now c.in-Ok.la c.in-Ok.lb c.in-Ok.lc = c.in-Ok.ensures in
-    let x = c.add-row.ensures in
+    let x = c.add_row.ensures in
     let low = s.back - c.in-Ok.la - c.in-Ok.lb - c.in-Ok.lc in
     let sum : low + (c.in-Ok.la + c.in-Ok.lb + c.in-Ok.lc) ≡ s.back = omega (arith, z.room) in
-    let d : Done (enforce g.F.Field.modulus c.args.a.now c.args.b.now c.args.c.now) s (Ok tt) (beside c.add-row.new.self c.args.self.now.values.now) =
-    moved (λ p. enforce p c.args.a.now c.args.b.now c.args.c.now) g.F.Field.modulus s (beside c.add-row.new.self c.args.self.now.values.now) (with_row s low c.add-row.new.self.rows.now c.add-row.new.self.terms.now) (Ok tt) c.requires.prime (x.rest c.args.self.now.values.now)
-    (row_new s c.args.a.now c.args.b.now c.args.c.now c.in-Ok.la c.in-Ok.lb c.in-Ok.lc low c.add-row.new.self.rows.now c.add-row.new.self.terms.now c.requires.fit z c.if-self.false sum x.rows_long x.terms_long x.written) in
+    let d : Done (enforce g.F.Field.modulus c.args.a.now c.args.b.now c.args.c.now) s (Ok tt) (beside c.add_row.new.self c.args.self.now.values.now) =
+    moved (λ p. enforce p c.args.a.now c.args.b.now c.args.c.now) g.F.Field.modulus s (beside c.add_row.new.self c.args.self.now.values.now) (with_row s low c.add_row.new.self.rows.now c.add_row.new.self.terms.now) (Ok tt) c.requires.prime (x.rest c.args.self.now.values.now)
+    (row_new s c.args.a.now c.args.b.now c.args.c.now c.in-Ok.la c.in-Ok.lb c.in-Ok.lc low c.add_row.new.self.rows.now c.add_row.new.self.terms.now c.requires.fit z c.if-self.false sum x.rows_long x.terms_long x.written) in
     record { still = record { prime = ap (λ (t : State). t.modulus) (x.rest c.args.self.now.values.now) ∙ c.requires.prime; fit = d.fit }; does = d.does; adds = d.adds; leaves = d.leaves }

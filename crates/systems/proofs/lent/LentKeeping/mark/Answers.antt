@@ -5,8 +5,8 @@ use Rattle.systems.proofs.Views.{inputs_long, witnesses_long, lcs_long, rows_lon
 use Rattle.systems.proofs.Grown.{same_words}
 use Rattle.systems.proofs.lent.LentKeeping.mark.Goals as goal
 
-pub overflow-cast-result-3 : goal.overflow-cast-result-3
-overflow-cast-result-3 g c =
+pub overflow_cast-result-3 : goal.overflow_cast-result-3
+overflow_cast-result-3 g c =
     let few : c.args.self.now.store.combinations ≤ c.args.self.now.store.front = chain_count _ _ _ c.requires.fit.chain in
     omega (arith, c.requires.fit.terms_in, c.requires.fit.back_in, c.requires.fit.term_limit)
 

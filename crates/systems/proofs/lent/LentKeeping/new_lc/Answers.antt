@@ -10,36 +10,36 @@ use Rattle.systems.proofs.Grown.{Done, moved}
 use Rattle.systems.proofs.Calls.{lc_unknown, lc_full, lc_new}
 use Rattle.systems.proofs.lent.LentKeeping.new_lc.Goals as goal
 
-pub returns-then-not-has-all : goal.returns-then-not-has-all
-returns-then-not-has-all g c =
+pub returns-then-not-has_all : goal.returns-then-not-has_all
+returns-then-not-has_all g c =
     let s = state c.args.self.now in
     let d : Done (new_lc g.F.Field.modulus c.args.terms.now) s (Err UnknownVariable) s =
-    subst (λ (p : ℕ). Done (new_lc p c.args.terms.now) s (Err UnknownVariable) s) c.requires.prime (lc_unknown s c.args.terms.now c.requires.fit c.if-not-has-all.ensures) in
+    subst (λ (p : ℕ). Done (new_lc p c.args.terms.now) s (Err UnknownVariable) s) c.requires.prime (lc_unknown s c.args.terms.now c.requires.fit c.if-not-has_all.ensures) in
     record { still = c.requires; does = d.does; adds = d.adds; leaves = d.leaves }
 
 pub returns-then-n-self : goal.returns-then-n-self
 returns-then-n-self g c =
     let s = state c.args.self.now in
     let d : Done (new_lc g.F.Field.modulus c.args.terms.now) s (Err TermsFull) s =
-    subst (λ (p : ℕ). Done (new_lc p c.args.terms.now) s (Err TermsFull) s) c.requires.prime (lc_full s c.args.terms.now c.merged-len-n.result c.requires.fit c.if-not-has-all.ensures c.merged-len-n.ensures c.if-n-self.true) in
+    subst (λ (p : ℕ). Done (new_lc p c.args.terms.now) s (Err TermsFull) s) c.requires.prime (lc_full s c.args.terms.now c.merged_len-n.result c.requires.fit c.if-not-has_all.ensures c.merged_len-n.ensures c.if-n-self.true) in
     record { still = c.requires; does = d.does; adds = d.adds; leaves = d.leaves }
 
-pub add-combination-requires : goal.add-combination-requires
-add-combination-requires g c =
+pub add_combination-requires : goal.add_combination-requires
+add_combination-requires g c =
     let s = state c.args.self.now in
     let few : s.lcs ≤ s.front = chain_count _ _ _ c.requires.fit.chain in
-    let h : c.merged-len-n.result < s.back - s.front = c.if-n-self.false in
+    let h : c.merged_len-n.result < s.back - s.front = c.if-n-self.false in
     record {
-      fits = record { modulus = c.requires.fit.modulus; long = c.merged-len-n.ensures; limit = omega (arith, c.requires.fit.back_in, c.requires.fit.term_limit); words = omega (arith, c.requires.fit.back_in, c.requires.fit.terms_long); small = has_small s c.args.terms.now c.requires.fit (sym c.if-not-has-all.ensures) };
+      fits = record { modulus = c.requires.fit.modulus; long = c.merged_len-n.ensures; limit = omega (arith, c.requires.fit.back_in, c.requires.fit.term_limit); words = omega (arith, c.requires.fit.back_in, c.requires.fit.terms_long); small = has_small s c.args.terms.now c.requires.fit (sym c.if-not-has_all.ensures) };
       few = omega (arith, c.requires.fit.terms_in, c.requires.fit.back_in, c.requires.fit.term_limit);
     }
 
 pub returns : goal.returns
 returns g c =
     let s = state c.args.self.now in
-    let n = c.merged-len-n.result in
-    let x = c.add-combination.ensures in
-    let d : Done (new_lc g.F.Field.modulus c.args.terms.now) s (Ok (Combination (s.front + n))) (beside c.add-combination.new.self c.args.self.now.values.now) =
-    moved (λ p. new_lc p c.args.terms.now) g.F.Field.modulus s (beside c.add-combination.new.self c.args.self.now.values.now) (with_lc s n c.add-combination.new.self.terms.now) (Ok (Combination (s.front + n))) c.requires.prime (x.rest c.args.self.now.values.now)
-    (lc_new s c.args.terms.now n c.worth-kept.result c.add-combination.new.self.terms.now c.requires.fit c.if-not-has-all.ensures c.merged-len-n.ensures c.if-n-self.false c.worth-kept.ensures.is c.worth-kept.ensures.below x.long x.written) in
+    let n = c.merged_len-n.result in
+    let x = c.add_combination.ensures in
+    let d : Done (new_lc g.F.Field.modulus c.args.terms.now) s (Ok (Combination (s.front + n))) (beside c.add_combination.new.self c.args.self.now.values.now) =
+    moved (λ p. new_lc p c.args.terms.now) g.F.Field.modulus s (beside c.add_combination.new.self c.args.self.now.values.now) (with_lc s n c.add_combination.new.self.terms.now) (Ok (Combination (s.front + n))) c.requires.prime (x.rest c.args.self.now.values.now)
+    (lc_new s c.args.terms.now n c.worth-kept.result c.add_combination.new.self.terms.now c.requires.fit c.if-not-has_all.ensures c.merged_len-n.ensures c.if-n-self.false c.worth-kept.ensures.is c.worth-kept.ensures.below x.long x.written) in
     record { still = record { prime = ap (λ (t : State). t.modulus) (x.rest c.args.self.now.values.now) ∙ c.requires.prime; fit = d.fit }; does = d.does; adds = d.adds; leaves = d.leaves }

@@ -23,8 +23,8 @@ returns-in-None g c =
 pub returns-in-Some : goal.returns-in-Some
 returns-in-Some g c =
     let s = state c.args.self.now in
-    let below : c.to-number.result < s.modulus = omega (arith, g.F.Field.laws.below c.in-Some.x, c.to-number.ensures, c.requires.prime) in
-    let d : Done (new_variable witness (option_map g.F.Field.number c.args.value.now)) s (Ok (Witness s.witnesses)) (with_witness s (set s.value_words (s.input_room + s.witnesses) c.to-number.result)) =
-    subst (λ (o : Option ℕ). Done (new_variable witness o) s (Ok (Witness s.witnesses)) (with_witness s (set s.value_words (s.input_room + s.witnesses) c.to-number.result))) (ap Some c.to-number.ensures ∙ sym (ap (option_map g.F.Field.number) c.in-Some.is))
-    (witness_new s c.to-number.result c.requires.fit c.if-n-self.false below) in
+    let below : c.to_number.result < s.modulus = omega (arith, g.F.Field.laws.below c.in-Some.x, c.to_number.ensures, c.requires.prime) in
+    let d : Done (new_variable witness (option_map g.F.Field.number c.args.value.now)) s (Ok (Witness s.witnesses)) (with_witness s (set s.value_words (s.input_room + s.witnesses) c.to_number.result)) =
+    subst (λ (o : Option ℕ). Done (new_variable witness o) s (Ok (Witness s.witnesses)) (with_witness s (set s.value_words (s.input_room + s.witnesses) c.to_number.result))) (ap Some c.to_number.ensures ∙ sym (ap (option_map g.F.Field.number) c.in-Some.is))
+    (witness_new s c.to_number.result c.requires.fit c.if-n-self.false below) in
     record { still = record { prime = c.requires.prime; fit = d.fit }; does = d.does; adds = d.adds; leaves = d.leaves }
