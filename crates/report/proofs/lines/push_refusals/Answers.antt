@@ -10,7 +10,7 @@ none = record { command = 0; refusal = record { number = 0; layer = 0 } }
 pub loop-refused-preserved : goal.loop-refused-preserved
 loop-refused-preserved c =
     let at = get_or c.args.refusals.now c.loop-refused.refused-index none in
-    written_more refusals_text refusals_text c.args.refusals.now c.loop-refused.refused-index none (refusal_text at) _ _ _ c.loop-refused-test.true refl c.loop-refused.invariant c.in-ok-push-refusal.ensures
+    written_more refusals_text refusals_text c.args.refusals.now c.loop-refused.refused-index none (refusal_text at) _ _ _ c.loop-refused-test.true refl c.loop-refused.invariant c.in_ok-push_refusal.ensures
 
 pub returns : goal.returns
 returns c =

@@ -14,9 +14,9 @@ loop-row-preserved g c =
     let sums = get_or (page_of p m).rows row (sums_of p m no_row) in
     let line = row_text (length m.inputs) sums.left sums.right sums.product in
     let before = string_bytes c.loop-row.text in
-    let after = string_bytes c.push-row.new.text in
+    let after = string_bytes c.push_row.new.text in
     let lt : row < length (page_of p m).rows = omega (arith, page_long p m, c.requires.counted.rows) in
-    let done = renamed before after (line_text p m row) line c.in-ok-push-row.ensures (ap (λ (s : Sums). row_text (length m.inputs) s.left s.right s.product) (on_page p m row)) in
+    let done = renamed before after (line_text p m row) line c.in_ok-push_row.ensures (ap (λ (s : Sums). row_text (length m.inputs) s.left s.right s.product) (on_page p m row)) in
     written_more (rows_text (length m.inputs)) (rows_text (length m.inputs)) (page_of p m).rows row (sums_of p m no_row) line before after _ lt refl c.loop-row.invariant done
 
 pub returns : goal.returns

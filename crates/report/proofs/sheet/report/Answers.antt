@@ -14,18 +14,18 @@ returns g c =
     let counts = c.counts-counts.result in
     let said = c.counts-counts.ensures in
     let text-0 = string_bytes c.new-text.result in
-    let text-1 = string_bytes c.push-refusals.new.text in
-    let text-2 = string_bytes c.push-counts.new.text in
-    let text-3 = string_bytes c.push-rows.new.text in
-    let text-4 = string_bytes c.push-verdict.new.text in
+    let text-1 = string_bytes c.push_refusals.new.text in
+    let text-2 = string_bytes c.push_counts.new.text in
+    let text-3 = string_bytes c.push_rows.new.text in
+    let text-4 = string_bytes c.push_verdict.new.text in
     let part-1 = refusals_text c.args.refusals.now in
     let part-2 = counts_text page.inputs page.witnesses (length page.rows) in
     let part-3 = rows_text page.inputs page.rows in
     let part-4 = verdict_text page.unmet in
-    let first = c.in-ok-push-refusals.ensures in
-    let second = renamed text-1 text-2 (counts_text counts.inputs counts.witnesses counts.rows) part-2 c.in-ok-push-counts.ensures (counted_page p m counts said.inputs said.witnesses said.rows) in
-    let third = c.in-ok-push-rows.ensures in
-    let fourth = renamed text-3 text-4 (verdict_text c.first_unmet.result) part-4 c.in-ok-push-verdict.ensures (ap verdict_text c.first_unmet.ensures) in
+    let first = c.in_ok-push_refusals.ensures in
+    let second = renamed text-1 text-2 (counts_text counts.inputs counts.witnesses counts.rows) part-2 c.in_ok-push_counts.ensures (counted_page p m counts said.inputs said.witnesses said.rows) in
+    let third = c.in_ok-push_rows.ensures in
+    let fourth = renamed text-3 text-4 (verdict_text c.first_unmet.result) part-4 c.in_ok-push_verdict.ensures (ap verdict_text c.first_unmet.ensures) in
     from_nothing text-0 (part-1 ++ (part-2 ++ (part-3 ++ part-4))) text-4 c.new-text.ensures.bytes
     (joins text-0 text-1 part-1 (part-2 ++ (part-3 ++ part-4)) text-4 first
     (joins text-1 text-2 part-2 (part-3 ++ part-4) text-4 second (joins text-2 text-3 part-3 part-4 text-4 third fourth)))
