@@ -1,12 +1,12 @@
 -- The steps of a variable bit as those of a Boolean.
-use Rattle.std.proofs.Common.{◌≡◌, ℕ, Result, sym, refl, ap, ◌∙◌}
+use Rattle.std.proofs.Common.{◌≡◌, ℕ, Result, sym, ap, ◌∙◌}
 use Rattle.relations.specs.declared.fault.GadgetFault.{GadgetFault}
 use Rattle.relations.specs.Meaning.{Meaning}
-use Rattle.relations.specs.Script.{Script, answer, then, run, over}
+use Rattle.relations.specs.Script.{Script, run, over}
 use Rattle.relations.proofs.Then.{then_over}
 use Rattle.allocated.specs.declared.allocated.AllocatedBool.{AllocatedBool}
 use Rattle.boolean.specs.declared.bits.Boolean.{Boolean}
-use Rattle.boolean.specs.declared.bits.Boolean.TheVariants.{Constant, Var}
+use Rattle.boolean.specs.declared.bits.Boolean.TheVariants.{Var}
 use Rattle.boolean.specs.Booleans.{as_var}
 
 pub var_runs : (p : ℕ) (s : Script AllocatedBool) (t : Script Boolean) (m n : Meaning) (r : Result AllocatedBool GadgetFault) (q : Result Boolean GadgetFault) → t ≡ as_var s → run p s m ≡ (r, n) → q ≡ over Var r → run p t m ≡ (q, n)

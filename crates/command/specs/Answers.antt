@@ -5,11 +5,10 @@ use Rattle.boolean.specs.declared.mode.AllocationMode.{AllocationMode}
 use Rattle.boolean.specs.declared.mode.AllocationMode.TheVariants.{Constant as as_constant, Input as as_input, Witness as as_witness}
 use Rattle.boolean.specs.declared.bits.Boolean.{Boolean}
 use Rattle.boolean.specs.declared.bits.Boolean.TheVariants.{Constant}
-use Rattle.boolean.specs.declared.bits.BooleanCall.{BooleanCall}
 use Rattle.boolean.specs.declared.bits.BooleanCall.TheVariants.{Allocate, Not as NotCall, Gated as GatedCall}
 use Rattle.boolean.specs.Booleans.{call_script}
 use Rattle.command.specs.declared.commands.Kind.{Kind}
-use Rattle.command.specs.declared.commands.Kind.TheVariants.{Bit as a_bit, Number as a_number}
+use Rattle.command.specs.declared.commands.Kind.TheVariants.{Bit as a_bit}
 use Rattle.command.specs.declared.commands.Command.{Command}
 use Rattle.command.specs.declared.commands.Command.TheVariants.{Bit as BitCommand, Clone, Not, Gated}
 use Rattle.command.specs.declared.answers.Answer.{Answer}

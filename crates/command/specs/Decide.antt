@@ -1,6 +1,5 @@
 -- What a command's operands, lengths and answers decide before any gadget runs: nothing here sees a value, a constant or a variable.
 use Rattle.std.specs.Prelude.{ℕ, ◌+◌, Bool, true, false, cond, ◌&&◌, List, [], ◌∷◌, length, Some, None, Ok, Err, Option, Result, nat_le, nat_lt, slice_index_or}
-use Rattle.allocated.specs.declared.gate.Gate.{Gate}
 use Rattle.command.specs.declared.commands.Kind.{Kind}
 use Rattle.command.specs.declared.commands.Kind.TheVariants.{Bit as a_bit, Number as a_number}
 use Rattle.command.specs.declared.commands.Command.{Command}

@@ -1,6 +1,5 @@
 -- A tape's bytes as commands.
-use Rattle.std.specs.Prelude.{ℕ, ◌+◌, ◌*◌, Bool, true, false, cond, List, [], ◌∷◌, length, Some, None, Option, ◌==◌, nat_le, slice_index}
-use Rattle.allocated.specs.declared.gate.Gate.{Gate}
+use Rattle.std.specs.Prelude.{ℕ, ◌+◌, ◌*◌, cond, List, length, Some, None, Option, ◌==◌, nat_le, slice_index}
 use Rattle.allocated.specs.declared.gate.Gate.TheVariants.{And, Or, Xor}
 use Rattle.command.specs.declared.commands.Command.{Command}
 use Rattle.command.specs.declared.commands.Command.TheVariants.{Bit, Clone, Not, Gated}

@@ -1,5 +1,5 @@
 -- From what a script means to the numbers to what its run added: soundness and completeness.
-use Rattle.std.proofs.Common.{◌≡◌, ℕ, zero, ◌+◌, ◌*◌, ◌/◌, ◌%◌, ◌<◌, ◌≤◌, Bool, true, false, cond, eqb, List, [], ◌∷◌, ◌++◌, length, Ok, Option, sym, refl, ap, ◌∙◌, subst, ap₂, append_assoc, append-nil, le_refl, mod-lt, mul_assoc, mul_comm, add-mul, mul-zero, zero-mul, arith, length-append, ltb-true, le-ltb, lt-ltb, eq-eqb, ne_eqb}
+use Rattle.std.proofs.Common.{◌≡◌, ℕ, ◌+◌, ◌*◌, ◌/◌, ◌%◌, ◌<◌, ◌≤◌, Bool, true, false, cond, eqb, List, [], ◌∷◌, ◌++◌, length, Ok, Option, sym, refl, ap, ◌∙◌, subst, ap₂, append_assoc, append-nil, le_refl, mod-lt, mul_assoc, mul_comm, add-mul, mul-zero, zero-mul, arith, length-append, ltb-true, le-ltb, lt-ltb, eq-eqb, ne_eqb}
 use native.Mathlib.Nat.{mod-mod, add-mod-mod, zero-mod, div-add-mod, mul-add-mod_self_left}
 use borrow.Author.Tests.{clash}
 use Rattle.relations.specs.declared.term.Variable.{Variable}

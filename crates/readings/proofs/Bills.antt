@@ -1,12 +1,12 @@
 -- The bill of each command is what its steps ask for.
-use Rattle.std.proofs.Common.{◌≡◌, ℕ, zero, suc, ◌+◌, ◌-◌, ◌*◌, ◌%◌, ◌<◌, ◌≤◌, Bool, true, false, cond, eqb, ltb, ◌≢◌, List, [], ◌∷◌, ◌++◌, length, Some, None, Option, sym, refl, ap, ◌∙◌, subst, ap₂, mod-eq_of_lt, arith, eq-eqb, ne_eqb, true-eqb, false-eqb}
+use Rattle.std.proofs.Common.{◌≡◌, ℕ, zero, suc, ◌+◌, ◌-◌, ◌%◌, ◌<◌, Bool, true, false, cond, eqb, ◌≢◌, List, [], ◌∷◌, length, Some, None, Option, sym, refl, ap, ◌∙◌, subst, mod-eq_of_lt, arith, eq-eqb, ne_eqb, true-eqb, false-eqb}
 use borrow.Author.Tests.{true-ltb}
 use Rattle.relations.specs.declared.term.Variable.{Variable}
 use Rattle.relations.specs.declared.term.Variable.TheVariants.{One, Zero, Input, Witness, Combination}
-use Rattle.relations.specs.Sum.{code, counted, handed, Pairs, total, named, weight, merged, sum_of}
-use Rattle.relations.specs.Meaning.{Meaning, Side, input, witness, has}
-use Rattle.relations.specs.Script.{Script, answer, refuse, allocate, combine, row, then}
-use Rattle.relations.specs.Terms.{times, just, one_less}
+use Rattle.relations.specs.Sum.{code, counted, Pairs, merged, sum_of}
+use Rattle.relations.specs.Meaning.{Meaning, input, witness, has}
+use Rattle.relations.specs.Script.{Script, answer, then}
+use Rattle.relations.specs.Terms.{times, one_less}
 use Rattle.boolean.specs.declared.mode.AllocationMode.{AllocationMode}
 use Rattle.boolean.specs.declared.mode.AllocationMode.TheVariants.{Constant as as_constant, Input as as_input, Witness as as_witness}
 use Rattle.allocated.specs.declared.gate.Gate.{Gate}
@@ -14,7 +14,7 @@ use Rattle.allocated.specs.declared.gate.Gate.TheVariants.{And, Or, Xor}
 use Rattle.boolean.specs.declared.bits.Boolean.{Boolean}
 use Rattle.boolean.specs.declared.bits.Boolean.TheVariants.{Constant, Var}
 use Rattle.allocated.specs.Gates.{bit_number}
-use Rattle.boolean.specs.Booleans.{alloc_script, not_script, call_script}
+use Rattle.boolean.specs.Booleans.{alloc_script, not_script}
 use Rattle.command.specs.declared.commands.Command.{Command}
 use Rattle.command.specs.declared.commands.Command.TheVariants.{Bit as BitCommand, Clone, Not, Gated}
 use Rattle.command.specs.declared.answers.Answer.{Answer}
@@ -22,9 +22,9 @@ use Rattle.command.specs.declared.answers.Answer.TheVariants.{Bit}
 use Rattle.command.specs.Answers.{mode_of, value_of, answer_at, as_bit, bit_at, command_script}
 use Rattle.laws.specs.Law.{There, present}
 use Rattle.laws.specs.History.{Each}
-use Rattle.laws.specs.Bill.{Charge, takes_variable, takes_combination, takes_row, stops, Next, names, charges}
+use Rattle.laws.specs.Bill.{takes_variable, takes_combination, takes_row, Next, names, charges}
 use Rattle.readings.specs.Readings.{NamesThere}
-use Rattle.readings.specs.Decision.{given, new_bill, not_bill, row_terms, gate_bill, bill, real, Real}
+use Rattle.readings.specs.Decision.{given, new_bill, not_bill, gate_bill, bill, real, Real}
 use Rattle.readings.proofs.BitLaws.{gate_call}
 use Rattle.readings.proofs.CommandLaws.{there_at}
 

@@ -1,10 +1,10 @@
 -- The laws of the gadgets on bits.
-use Rattle.std.proofs.Common.{◌≡◌, ℕ, zero, suc, ◌+◌, ◌-◌, ◌*◌, ◌%◌, ◌<◌, ◌≤◌, Bool, true, false, not, ◌&&◌, List, [], ◌∷◌, Some, None, Option, sym, refl, ap, ◌∙◌, subst, ap₂, arith}
+use Rattle.std.proofs.Common.{◌≡◌, ℕ, zero, suc, ◌+◌, ◌-◌, ◌*◌, ◌%◌, ◌<◌, ◌≤◌, Bool, true, false, not, ◌&&◌, Some, None, Option, sym, refl, ap, ◌∙◌, subst, arith}
 use Rattle.arith.specs.Number.{Prime}
 use Rattle.relations.specs.declared.term.Variable.{Variable}
 use Rattle.relations.specs.declared.term.Variable.TheVariants.{One}
-use Rattle.relations.specs.Meaning.{Side, input, witness, number}
-use Rattle.relations.specs.Script.{Script, answer, refuse, allocate, combine, row, then}
+use Rattle.relations.specs.Meaning.{number}
+use Rattle.relations.specs.Script.{Script}
 use Rattle.boolean.specs.declared.mode.AllocationMode.{AllocationMode}
 use Rattle.boolean.specs.declared.mode.AllocationMode.TheVariants.{Constant as as_constant, Input as as_input, Witness as as_witness}
 use Rattle.allocated.specs.declared.gate.Gate.{Gate}
@@ -13,10 +13,10 @@ use Rattle.allocated.specs.declared.allocated.AllocatedBool.{AllocatedBool}
 use Rattle.boolean.specs.declared.bits.Boolean.{Boolean}
 use Rattle.boolean.specs.declared.bits.Boolean.TheVariants.{Constant, Var}
 use Rattle.boolean.specs.declared.bits.BooleanCall.TheVariants.{Gated}
-use Rattle.allocated.specs.Gates.{bit, truth, applied, either, differ, gated, bit_number, gate_script}
-use Rattle.boolean.specs.Booleans.{alloc_script, not_script, call_script, and_script, or_script, xor_script, as_var}
-use Rattle.laws.specs.Law.{Val, Low, Must, Given, Fits, Plan, Plays, Goes, Forces, Computes, Law}
-use Rattle.laws.proofs.Frame.{must_then, goes_then, Is, Function, function_law, Pure, pure_plays, any_plan, function_pure}
+use Rattle.allocated.specs.Gates.{bit, truth, applied, either, differ, bit_number}
+use Rattle.boolean.specs.Booleans.{alloc_script, not_script, call_script}
+use Rattle.laws.specs.Law.{Val, Low, Must, Given, Goes, Forces, Computes, Law}
+use Rattle.laws.proofs.Frame.{Is, Function, Pure, pure_plays, any_plan, function_pure}
 use Rattle.readings.specs.Readings.{bit_number_of, Valued}
 use Rattle.readings.proofs.Rows.{one_less, bit_forced, bit_met, Row, gate_forced, gate_met}
 

@@ -1,30 +1,28 @@
 -- The laws of the commands, whose operands are found in a book.
-use Rattle.std.proofs.Common.{◌≡◌, ℕ, zero, suc, ◌+◌, ◌-◌, ◌*◌, ◌%◌, ◌<◌, ◌≤◌, Bool, true, false, not, ◌&&◌, List, [], ◌∷◌, ◌++◌, map, length, get_or, Some, None, Ok, Err, Option, sym, refl, ap, ◌∙◌, subst, ap₂, arith}
+use Rattle.std.proofs.Common.{◌≡◌, ℕ, zero, suc, ◌<◌, ◌≤◌, Bool, true, false, List, [], ◌∷◌, length, get_or, Some, None, Option, sym, refl, ◌∙◌, subst, arith}
 use Rattle.arith.specs.Number.{Prime}
-use Rattle.relations.specs.declared.term.Variable.{Variable}
 use Rattle.relations.specs.declared.term.Variable.TheVariants.{One}
-use Rattle.relations.specs.Meaning.{Meaning, Side, input, witness, number}
-use Rattle.relations.specs.Script.{Script, answer, refuse, allocate, combine, row, then, run}
+use Rattle.relations.specs.Meaning.{number}
+use Rattle.relations.specs.Script.{Script, answer, refuse, allocate, combine, row, then}
 use Rattle.boolean.specs.declared.mode.AllocationMode.{AllocationMode}
 use Rattle.boolean.specs.declared.mode.AllocationMode.TheVariants.{Constant as as_constant, Input as as_input, Witness as as_witness}
 use Rattle.allocated.specs.declared.gate.Gate.{Gate}
 use Rattle.allocated.specs.declared.gate.Gate.TheVariants.{And, Or, Xor}
-use Rattle.allocated.specs.declared.allocated.AllocatedBool.{AllocatedBool}
 use Rattle.boolean.specs.declared.bits.Boolean.{Boolean}
 use Rattle.boolean.specs.declared.bits.Boolean.TheVariants.{Constant, Var}
-use Rattle.allocated.specs.Gates.{bit, truth, applied, gated, bit_number}
-use Rattle.boolean.specs.Booleans.{alloc_script, not_script, call_script}
+use Rattle.allocated.specs.Gates.{bit, bit_number}
+use Rattle.boolean.specs.Booleans.{alloc_script, not_script}
 use Rattle.command.specs.declared.commands.Command.{Command}
 use Rattle.command.specs.declared.commands.Command.TheVariants.{Bit as BitCommand, Clone, Not, Gated}
 use Rattle.command.specs.declared.answers.Answer.{Answer}
 use Rattle.command.specs.declared.answers.Answer.TheVariants.{Bit}
 use Rattle.command.specs.Answers.{mode_of, value_of, answer_at, bit_at, as_bit, action, action_script, command_script}
-use Rattle.laws.specs.Law.{Val, Low, Must, Given, Fits, Plan, Plays, Goes, Forces, Reaches, Computes, Law, There, Wider, Names, AllThere, TermsThere, Sees, Below, Tidy, Steady, present, lists}
+use Rattle.laws.specs.Law.{Val, Goes, Law, There, Wider, Names, Sees, Below, Tidy, Steady, lists}
 use Rattle.laws.specs.Runs.{Agree}
-use Rattle.laws.specs.History.{Entry, Obeys, Each, Along}
-use Rattle.laws.proofs.Frame.{must_then, goes_then, Is, Only, Function, function_law, function_pure, Pure, law_on, law_one, sees_then, sees_names, tidy_then}
-use Rattle.readings.specs.Readings.{bit_number_of, number_of, numbers_of, OneReading, Reading, Valued, BoundedByKind, NamesThere}
-use Rattle.readings.proofs.BitLaws.{pair, flipped, tabled, Bits, gate_call, not_function, gate_function, New, new_law, same_bit}
+use Rattle.laws.specs.History.{Each, Along}
+use Rattle.laws.proofs.Frame.{must_then, goes_then, Is, function_law, function_pure, law_on, law_one, sees_then, sees_names, tidy_then}
+use Rattle.readings.specs.Readings.{bit_number_of, number_of, numbers_of, OneReading, Reading, BoundedByKind, NamesThere}
+use Rattle.readings.proofs.BitLaws.{pair, flipped, tabled, Bits, gate_call, not_function, gate_function, New, new_law}
 
 -- ---- a gadget whose answer is another type's
 pub law_over : (p : ℕ) {In Out Out' X Y : Type 0} (at : Val → In → X) (of : Val → Out → Y) (of' : Val → Out' → Y) (f : Out → Out') → ((ρ : Val) (o : Out) → of' ρ (f o) ≡ of ρ o) → (g : In → Script Out)

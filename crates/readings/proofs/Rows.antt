@@ -1,6 +1,6 @@
 -- What the rows of the gates on bits force, and which numbers meet them.
-use Rattle.std.proofs.Common.{◌≡◌, ℕ, zero, suc, ◌+◌, ◌-◌, ◌*◌, ◌/◌, ◌%◌, ◌<◌, ◌≤◌, Bool, true, false, not, ◌⊎◌, sym, refl, ap, ◌∙◌, subst, ap₂, inl, inr, ⊎_elim, mod-lt, mod-eq_of_lt, mul_assoc, mul_comm, add-mul, one-mul, mul-zero, zero-mul, mul-one, mul-add, arith}
-use native.Mathlib.Nat.{div-add-mod, mul-add-mod_self_left, add-mul-mod_self_left, mul-mod_right, add-mod, mod-mod, zero-mod}
+use Rattle.std.proofs.Common.{◌≡◌, ℕ, zero, suc, ◌+◌, ◌-◌, ◌*◌, ◌/◌, ◌%◌, ◌<◌, ◌≤◌, sym, refl, ap, ◌∙◌, ap₂, ⊎_elim, mod-eq_of_lt, add-mul, one-mul, zero-mul, arith}
+use native.Mathlib.Nat.{div-add-mod, mul-add-mod_self_left, add-mul-mod_self_left, add-mod, zero-mod}
 use Rattle.arith.specs.Number.{Prime}
 use Rattle.arith.proofs.Euclid.{mul_mod_l, mul_mod_r, zero_factor}
 use Rattle.allocated.specs.declared.gate.Gate.{Gate}

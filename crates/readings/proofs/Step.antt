@@ -1,18 +1,18 @@
 -- One command more keeps what runs keep.
-use Rattle.std.proofs.Common.{◌≡◌, ℕ, zero, suc, ◌+◌, ◌<◌, ◌≤◌, Bool, true, false, cond, ◌&&◌, ltb, leb, List, [], ◌∷◌, ◌++◌, map, length, get_or, Some, None, Ok, Err, Option, Result, sym, refl, ap, ◌∙◌, subst, ap₂, arith, length-append}
+use Rattle.std.proofs.Common.{◌≡◌, ℕ, zero, suc, ◌+◌, ◌<◌, Bool, true, false, cond, leb, List, [], ◌∷◌, ◌++◌, length, Some, None, Ok, Err, Option, Result, sym, refl, ap, ◌∙◌, subst, arith}
 use lib.ListN.{length-map}
 use lib.Seq.{get_or_at}
 use borrow.Author.Tests.{true-ltb}
 use Rattle.std.proofs.lemmas.List.{get_or-map}
 use Rattle.arith.specs.Number.{Prime}
 use Rattle.relations.specs.declared.term.Variable.{Variable}
-use Rattle.relations.specs.declared.term.Variable.TheVariants.{Input, Witness, Combination}
+use Rattle.relations.specs.declared.term.Variable.TheVariants.{Combination}
 use Rattle.relations.specs.declared.fault.GadgetFault.{GadgetFault}
 use Rattle.relations.specs.declared.fault.GadgetFault.TheVariants.{NoValue}
-use Rattle.relations.specs.Meaning.{Meaning, Fresh, Grows, Side, input, witness, has, assigned, next_of, with_new, with_row, number}
+use Rattle.relations.specs.Meaning.{Meaning, Fresh, Grows, Side, input, witness, has, assigned, next_of, with_new, number}
 use Rattle.relations.specs.Sum.{row_of, sum_of}
 use Rattle.relations.specs.Terms.{just, one_less}
-use Rattle.relations.specs.Script.{Script, answer, refuse, allocate, combine, row, then, run, restored, whole, over}
+use Rattle.relations.specs.Script.{Script, answer, refuse, allocate, combine, row, then, run, restored, over}
 use Rattle.boolean.specs.declared.mode.AllocationMode.{AllocationMode}
 use Rattle.boolean.specs.declared.mode.AllocationMode.TheVariants.{Constant as as_constant, Input as as_input, Witness as as_witness}
 use Rattle.allocated.specs.declared.gate.Gate.{Gate}
@@ -20,7 +20,7 @@ use Rattle.allocated.specs.declared.gate.Gate.TheVariants.{And, Or, Xor}
 use Rattle.boolean.specs.declared.bits.Boolean.{Boolean}
 use Rattle.boolean.specs.declared.bits.Boolean.TheVariants.{Constant, Var}
 use Rattle.allocated.specs.Gates.{bit_number}
-use Rattle.boolean.specs.Booleans.{alloc_script, not_script, call_script}
+use Rattle.boolean.specs.Booleans.{alloc_script, not_script}
 use Rattle.command.specs.declared.commands.Kind.{Kind}
 use Rattle.command.specs.declared.commands.Kind.TheVariants.{Bit as a_bit, Number as a_number}
 use Rattle.command.specs.declared.commands.Command.{Command}
@@ -29,21 +29,20 @@ use Rattle.command.specs.declared.answers.Answer.{Answer}
 use Rattle.command.specs.declared.answers.Answer.TheVariants.{Bit}
 use Rattle.command.specs.declared.fault.TapeFault.{TapeFault}
 use Rattle.command.specs.declared.fault.TapeFault.TheVariants.{Gadget, Operand, BookFull}
-use Rattle.command.specs.Decide.{fits, answers, checked, present}
+use Rattle.command.specs.Decide.{fits, answers, checked}
 use Rattle.command.specs.Answers.{kind_of, kinds, mode_of, value_of, answer_at, as_bit, bit_at, command_script}
-use Rattle.laws.specs.Law.{Val, Given, lists}
-use Rattle.laws.specs.Runs.{Same}
-use Rattle.laws.specs.History.{Entry, accepted, refused, Obeys, Each, Kept, Faithful}
-use Rattle.laws.specs.Bill.{Next, past, past_terms, named, names, charges, ends, settled, account}
-use Rattle.laws.proofs.Trace.{Keeps, Allocated, allocated, Enforced, enforced, refused as ruled}
+use Rattle.laws.specs.Law.{Val, Given}
+use Rattle.laws.specs.History.{accepted, Each, Kept}
+use Rattle.laws.specs.Bill.{Next, past, past_terms, named, names, ends, settled, account}
+use Rattle.laws.proofs.Trace.{Keeps, allocated, enforced, refused as ruled}
 use Rattle.laws.proofs.Link.{run_grows}
 use Rattle.laws.proofs.Own.{assigned_grows, assigned_row}
 use Rattle.laws.proofs.Settle.{settles_ok, settles_err, ends_run}
 use Rattle.laws.proofs.Theorem.{start, step_refused, step_accepted, faithful, nums_same}
 use Rattle.readings.specs.Readings.{bit_number_of, number_of, numbers_of, Reading, BoundedByKind, NamesThere}
-use Rattle.readings.specs.Decision.{bill, by_bill, by_check, decision, real, Real}
+use Rattle.readings.specs.Decision.{bill, by_bill, by_check, Real}
 use Rattle.readings.specs.State.{State, state, filed, performed, executed}
-use Rattle.readings.specs.Runs.{Past, History, entry_of, entries, decided, Grew, Run, begins, accepts, refuses, GivenBy, Tells, Running, Promise, Stepped}
+use Rattle.readings.specs.Runs.{History, entries, decided, begins, accepts, refuses, GivenBy, Tells, Running, Promise, Stepped}
 use Rattle.readings.proofs.BitLaws.{gate_call}
 use Rattle.readings.proofs.CommandLaws.{Pre, computed, law, names as all_named, sees, local, wider, tidy, steady, pre_of, kinds_of}
 use Rattle.readings.proofs.Bills.{billed_so}

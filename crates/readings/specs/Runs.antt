@@ -1,6 +1,6 @@
 -- Runs of commands, and what every run promises.
-use Rattle.std.specs.Prelude.{◌≡◌, ℕ, Bool, true, false, List, [], ◌∷◌, ◌++◌, length, Ok, Err, Option, Result}
-use Rattle.relations.specs.Meaning.{Meaning, Fresh, Grows, assigned}
+use Rattle.std.specs.Prelude.{◌≡◌, ℕ, true, List, [], ◌∷◌, ◌++◌, length, Ok, Err, Result}
+use Rattle.relations.specs.Meaning.{Fresh, Grows, assigned}
 use Rattle.relations.specs.Script.{over}
 use Rattle.allocated.specs.Gates.{bit_number}
 use Rattle.command.specs.declared.commands.Kind.{Kind}

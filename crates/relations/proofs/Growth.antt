@@ -1,13 +1,13 @@
 -- Steps only add to the ends of the lists.
-use Rattle.std.proofs.Common.{◌≡◌, ℕ, ◌+◌, Bool, true, false, cond, ltb, leb, List, [], ◌∷◌, ◌++◌, length, Some, None, Ok, Err, Option, Result, sym, refl, ap, ◌∙◌, subst, append_assoc, append-nil}
+use Rattle.std.proofs.Common.{◌≡◌, ℕ, ◌+◌, Bool, true, false, cond, ltb, leb, List, [], ◌∷◌, ◌++◌, length, Some, None, Ok, Err, Option, Result, sym, refl, ap, ◌∙◌, append_assoc, append-nil}
 use Rattle.relations.specs.declared.term.Variable.{Variable}
 use Rattle.relations.specs.declared.term.Variable.TheVariants.{Combination}
 use Rattle.relations.specs.declared.term.Term.{Term}
 use Rattle.relations.specs.declared.fault.SystemFault.{SystemFault}
-use Rattle.relations.specs.declared.fault.SystemFault.TheVariants.{UnknownVariable, MissingValue, TermsFull}
+use Rattle.relations.specs.declared.fault.SystemFault.TheVariants.{UnknownVariable, TermsFull}
 use Rattle.relations.specs.declared.fault.GadgetFault.{GadgetFault}
 use Rattle.relations.specs.Sum.{Row, row_of, sum_of}
-use Rattle.relations.specs.Meaning.{Meaning, Combo, Step, Side, input, witness, ask, has, kept, new_variable, keeping, with_new, full, listed, room, new_lc, with_combo, combo_of, enforce, with_row, rows_full, has_all, has_row, used, row_use, places, Grows}
+use Rattle.relations.specs.Meaning.{Meaning, Combo, Step, Side, input, witness, ask, new_variable, keeping, with_new, full, listed, room, new_lc, with_combo, combo_of, enforce, with_row, rows_full, has_all, has_row, used, row_use, places, Grows}
 use Rattle.relations.specs.Script.{Script, answer, refuse, allocate, combine, row, next, asking, run}
 
 pub grows_refl : (m : Meaning) → Grows m m

@@ -1,5 +1,5 @@
 -- One script after another runs as its parts do.
-use Rattle.std.proofs.Common.{◌≡◌, ℕ, List, [], ◌∷◌, Ok, Err, Option, Result, sym, refl, ap, ◌∙◌}
+use Rattle.std.proofs.Common.{◌≡◌, ℕ, List, [], ◌∷◌, Ok, Err, Option, Result, refl, ap, ◌∙◌}
 use Rattle.relations.specs.declared.term.Variable.{Variable}
 use Rattle.relations.specs.declared.fault.SystemFault.{SystemFault}
 use Rattle.relations.specs.declared.fault.GadgetFault.{GadgetFault}

@@ -1,9 +1,9 @@
 -- A rewinding after a refused script gives the system back.
-use Rattle.std.proofs.Common.{◌≡◌, ℕ, ◌≤◌, Bool, true, false, cond, ◌&&◌, leb, List, [], ◌∷◌, ◌++◌, length, take, Ok, Err, Result, sym, refl, ap, ◌∙◌, subst, le_refl, arith, length-append, le-leb}
+use Rattle.std.proofs.Common.{◌≡◌, ℕ, Bool, true, ◌&&◌, leb, List, ◌++◌, length, take, Ok, Err, Result, sym, refl, ap, ◌∙◌, subst, le_refl, arith, length-append, le-leb}
 use Rattle.std.proofs.lemmas.List.{take_at}
 use Rattle.relations.specs.declared.fault.SystemFault.{SystemFault}
 use Rattle.relations.specs.declared.fault.GadgetFault.{GadgetFault}
-use Rattle.relations.specs.Meaning.{Meaning, Combo, places, combos_within, rows_within, cut_to, may_cut, rewind, Sane, Shorter, Begins, Stored, cut}
+use Rattle.relations.specs.Meaning.{Meaning, places, combos_within, rows_within, cut_to, may_cut, rewind, Sane, Begins, Stored, cut}
 use Rattle.relations.specs.Script.{Script, run, restored, whole}
 use Rattle.relations.specs.Meaning.{Grows}
 use Rattle.relations.proofs.Growth.{growing_run}

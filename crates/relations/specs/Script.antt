@@ -1,5 +1,5 @@
 -- A gadget as a script of calls, and the one function that runs scripts.
-use Rattle.std.specs.Prelude.{◌≡◌, ℕ, List, [], ◌∷◌, Ok, Err, Option, Result}
+use Rattle.std.specs.Prelude.{ℕ, List, [], ◌∷◌, Ok, Err, Option, Result}
 use Rattle.relations.specs.declared.term.Variable.{Variable}
 use Rattle.relations.specs.declared.term.Term.{Term}
 use Rattle.relations.specs.declared.fault.SystemFault.{SystemFault}

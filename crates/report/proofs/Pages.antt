@@ -1,5 +1,5 @@
 -- The rows of a system, line by line.
-use Rattle.std.proofs.Common.{◌≡◌, ℕ, ◌+◌, ◌<◌, ◌≤◌, Bool, true, ◌&&◌, ltb, leb, List, [], map, length, get_or, take, sym, refl, ap, ◌∙◌, arith, lt-ltb, le-leb}
+use Rattle.std.proofs.Common.{◌≡◌, ℕ, ◌<◌, ◌≤◌, Bool, true, ◌&&◌, ltb, leb, List, [], length, get_or, take, sym, ap, ◌∙◌, arith, lt-ltb, le-leb}
 use lib.ListN.{get_or-map}
 use Rattle.std.proofs.lemmas.List.{length-map}
 use Rattle.relations.specs.Sum.{Row, row_of}
@@ -8,7 +8,7 @@ use Rattle.words.specs.State.{State, Fit, view}
 use Rattle.words.proofs.Tables.{tabulate_length}
 use Rattle.systems.specs.declared.lent.Counts.{Counts}
 use Rattle.systems.specs.Outline.{width, working}
-use Rattle.report.specs.Text.{Sums, Page, sum_text, counts_text}
+use Rattle.report.specs.Text.{sum_text, counts_text}
 use Rattle.report.specs.Sheet.{sums_of, page_of}
 use Rattle.report.proofs.Steps.{same_counts}
 

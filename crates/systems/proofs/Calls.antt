@@ -1,24 +1,22 @@
 -- Each call that adds to a system over words does its step.
-use Rattle.std.proofs.Common.{◌≡◌, ℕ, zero, suc, ◌+◌, ◌-◌, ◌*◌, ◌/◌, ◌%◌, ◌<◌, ◌≤◌, Bool, true, false, cond, ◌&&◌, eqb, ltb, leb, ◌⊎◌, List, [], ◌∷◌, ◌++◌, map, length, get_or, set, Some, None, Ok, Err, Option, Result, sym, refl, ap, ◌∙◌, subst, inl, inr, eq-or-lt_of_le, arith, length-set, get_or-set_other, get_or-set_same, le-ltb, lt-ltb, le-leb}
+use Rattle.std.proofs.Common.{◌≡◌, ℕ, ◌+◌, ◌-◌, ◌*◌, ◌<◌, ◌≤◌, Bool, true, false, ◌&&◌, ltb, leb, List, [], ◌∷◌, ◌++◌, map, length, get_or, set, Some, None, Ok, Err, Option, sym, refl, ap, ◌∙◌, subst, inl, inr, eq-or-lt_of_le, arith, length-set, get_or-set_other, get_or-set_same, le-ltb, lt-ltb, le-leb}
 use borrow.Author.Tests.{lt-leb}
 use Rattle.std.proofs.lemmas.List.{map-append}
-use Rattle.relations.specs.declared.term.Variable.{Variable}
-use Rattle.relations.specs.declared.term.Variable.TheVariants.{One, Zero, Input, Witness, Combination}
+use Rattle.relations.specs.declared.term.Variable.TheVariants.{Input, Witness, Combination}
 use Rattle.relations.specs.declared.term.Term.{Term}
-use Rattle.relations.specs.declared.fault.SystemFault.{SystemFault}
 use Rattle.relations.specs.declared.fault.SystemFault.TheVariants.{UnknownVariable, MissingValue, InputsFull, WitnessesFull, TermsFull, RowsFull}
-use Rattle.relations.specs.Sum.{Row, handed, all_in, sum_of, row_of}
-use Rattle.relations.specs.Meaning.{Meaning, Combo, Step, Ran, Side, input, witness, new_variable, has_all, has_row, assigned, used, row_use, combo_of, new_lc, admit, enforce}
-use Rattle.words.specs.Words.{tabulate, pairs, plain, whole, combination, combinations, combo, Chain, rows, row_at, meant, triple, floor, Placed, Stack, lists_in, triple_in, triples_in, LcWritten, RowWritten}
-use Rattle.words.specs.State.{State, Fit, view, words_of, with_lc, with_row}
+use Rattle.relations.specs.Sum.{handed, all_in, sum_of, row_of}
+use Rattle.relations.specs.Meaning.{Ran, input, witness, new_variable, has_all, has_row, assigned, used, row_use, combo_of, new_lc, admit, enforce}
+use Rattle.words.specs.Words.{tabulate, whole, combinations, combo, rows, meant, triple, floor, Placed, lists_in, triples_in, LcWritten, RowWritten}
+use Rattle.words.specs.State.{State, Fit, view, with_lc, with_row}
 use Rattle.words.proofs.Tables.{tabulate_same, tabulate_more}
 use Rattle.words.proofs.Values.{stored_means}
 use Rattle.words.proofs.Areas.{chain_same, chain_more, tagged_same, tagged_more, combinations_same, combinations_more, rows_same, rows_more, stack_same, stack_more, floor_same, floor_more}
-use Rattle.words.proofs.Cuts.{and_true, lists_in_append, triples_in_append, lists_in_more, triples_in_more, all_in_more}
+use Rattle.words.proofs.Cuts.{lists_in_append, triples_in_append, lists_in_more, triples_in_more, all_in_more}
 use Rattle.words.proofs.There.{merged_in, stored_free}
 use Rattle.systems.specs.Held.{Sized, Refused}
 use Rattle.systems.proofs.Views.{inputs_long, witnesses_long, rows_long, places_are, used_is, has_all_in}
-use Rattle.systems.proofs.Grown.{Later, Done, refuse, accept}
+use Rattle.systems.proofs.Grown.{Done, refuse, accept}
 
 -- ---- inputs and witnesses
 abbrev pub with_input : State → List ℕ → State

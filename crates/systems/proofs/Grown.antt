@@ -1,9 +1,8 @@
 -- Words that are stored stay where a system grows, and are what is left where it is cut.
-use Rattle.std.proofs.Common.{◌≡◌, ℕ, ◌+◌, ◌-◌, ◌*◌, ◌<◌, ◌≤◌, Bool, true, false, List, [], ◌∷◌, ◌++◌, length, get_or, take, Ok, Err, Result, sym, refl, ap, ◌∙◌, subst, arith}
+use Rattle.std.proofs.Common.{◌≡◌, ℕ, ◌+◌, ◌-◌, ◌*◌, ◌<◌, ◌≤◌, length, get_or, take, Ok, Err, Result, sym, refl, ap, ◌∙◌, subst, arith}
 use Rattle.std.proofs.lemmas.List.{take-take}
 use Rattle.relations.specs.declared.fault.SystemFault.{SystemFault}
-use Rattle.relations.specs.Meaning.{Meaning, Stored, Step, Ran, places, rows_use, valued, cut, Shorter, Begins, Adds, Leaves}
-use Rattle.words.specs.Words.{tabulate}
+use Rattle.relations.specs.Meaning.{Meaning, Stored, Step, Ran, places, rows_use, cut, Shorter, Adds, Leaves}
 use Rattle.words.specs.State.{State, Fit, view, words_of}
 use Rattle.words.proofs.Tables.{tabulate_same, tabulate_take}
 use Rattle.systems.proofs.Views.{inputs_long, witnesses_long, rows_long, places_are, use_is}

@@ -1,21 +1,20 @@
 -- A row's sums written out.
-use Rattle.std.proofs.Common.{◌≡◌, ℕ, zero, suc, ◌+◌, ◌-◌, ◌*◌, ◌<◌, ◌≤◌, Bool, true, false, cond, eqb, ltb, ◌⊎◌, List, [], ◌∷◌, ◌++◌, length, get_or, take, drop, sym, refl, ap, ◌∙◌, subst, inl, inr, le_of_suc-le-suc, arith, ltb-false, ltb-true}
+use Rattle.std.proofs.Common.{◌≡◌, ℕ, zero, suc, ◌+◌, ◌-◌, ◌<◌, ◌≤◌, Bool, true, false, cond, eqb, ltb, List, [], ◌∷◌, ◌++◌, length, get_or, take, drop, sym, refl, ap, ◌∙◌, subst, le_of_suc-le-suc, arith, ltb-false, ltb-true}
 use Rattle.std.proofs.lemmas.Bool.{eqb-true, eqb-false}
 use Rattle.relations.specs.declared.term.Variable.{Variable}
 use Rattle.relations.specs.declared.term.Variable.TheVariants.{One, Input, Witness}
 use Rattle.relations.specs.Sum.{Row, row_of}
-use Rattle.relations.specs.Meaning.{Meaning}
 use Rattle.relations.specs.Written.{written}
-use Rattle.words.specs.Words.{tabulate, row_at, meant}
+use Rattle.words.specs.Words.{tabulate}
 use Rattle.words.specs.State.{State, Fit, view}
-use Rattle.words.proofs.Cuts.{Lies, lies}
+use Rattle.words.proofs.Cuts.{lies}
 use Rattle.words.proofs.Tables.{tabulate_same, tabulate_length}
 use Rattle.written.specs.declared.Counts.{Counts}
 use Rattle.written.specs.Cells.{cells, Over, Readable, written_out}
 use Rattle.written.proofs.Rows.{readable}
 use Rattle.systems.specs.declared.lent.Part.{Part}
 use Rattle.systems.specs.declared.lent.Part.TheVariants.{A, B, C}
-use Rattle.systems.specs.Outline.{place, outline, working, width, placed, coefficients, part_of, row_sum}
+use Rattle.systems.specs.Outline.{place, outline, working, width, placed, coefficients, row_sum}
 use Rattle.systems.proofs.Unmet.{row_is}
 
 -- the words of a part lie in their room

@@ -1,18 +1,18 @@
 -- A cut of a system over words does its step.
-use Rattle.std.proofs.Common.{◌≡◌, ℕ, zero, suc, ◌+◌, ◌-◌, ◌*◌, ◌<◌, ◌≤◌, Bool, true, false, cond, ◌&&◌, leb, List, [], ◌∷◌, ◌++◌, map, length, get_or, take, Some, Ok, Err, Result, sym, refl, ap, ◌∙◌, subst, arith, le-leb}
+use Rattle.std.proofs.Common.{◌≡◌, ℕ, ◌+◌, ◌<◌, ◌≤◌, Bool, true, false, ◌&&◌, leb, map, length, get_or, take, Some, Ok, Err, Result, sym, refl, ap, ◌∙◌, arith, le-leb}
 use borrow.Author.Tests.{lt-leb}
 use Rattle.std.proofs.lemmas.List.{take-map}
 use Rattle.relations.specs.declared.fault.SystemFault.{SystemFault}
 use Rattle.relations.specs.declared.fault.SystemFault.TheVariants.{MarkRefused}
-use Rattle.relations.specs.Meaning.{Meaning, Combo, Ran, places, combos_within, rows_within, may_cut, rewind, Cuts}
-use Rattle.words.specs.Words.{tabulate, combinations, combo, Chain, Tagged, rows, meant, floor, Stack, lists_in, triples_in}
+use Rattle.relations.specs.Meaning.{Ran, places, combos_within, rows_within, may_cut, rewind, Cuts}
+use Rattle.words.specs.Words.{combinations, combo, Chain, rows, meant, lists_in, triples_in}
 use Rattle.words.specs.State.{State, Fit, view, words_of}
 use Rattle.words.proofs.Tables.{tabulate_take}
 use Rattle.words.proofs.Areas.{combinations_used, floor_below}
-use Rattle.words.proofs.Cuts.{and_false, combos_are, rows_are, rows_take, stack_take, floor_take}
+use Rattle.words.proofs.Cuts.{combos_are, rows_are, rows_take, stack_take, floor_take}
 use Rattle.systems.specs.Held.{CutAt, Barred}
 use Rattle.systems.proofs.Views.{inputs_long, witnesses_long, lcs_long, rows_long}
-use Rattle.systems.proofs.Grown.{Later, kept_words}
+use Rattle.systems.proofs.Grown.{kept_words}
 
 abbrev V : Bool → Bool → Bool → Bool → Bool → Bool → Bool
 V a b c d x y = (a && (b && (c && d))) && (x && y)

@@ -1,10 +1,10 @@
 -- Going through the rows to the first that is not met.
-use Rattle.std.proofs.Common.{◌≡◌, ℕ, zero, suc, ◌+◌, ◌-◌, ◌*◌, ◌%◌, ◌<◌, ◌≤◌, Bool, true, false, cond, eqb, List, [], ◌∷◌, ◌++◌, map, length, get_or, drop, Some, None, Option, sym, refl, ap, ◌∙◌, subst, arith}
+use Rattle.std.proofs.Common.{◌≡◌, ℕ, zero, suc, ◌+◌, ◌*◌, ◌%◌, ◌<◌, ◌≤◌, Bool, true, false, cond, eqb, List, [], ◌∷◌, ◌++◌, get_or, drop, Some, None, sym, refl, ap, ◌∙◌, arith}
 use Rattle.std.proofs.lemmas.List.{at_drop_more, at_drop_all, get_or-map}
 use Rattle.relations.specs.Sum.{Row}
-use Rattle.relations.specs.Meaning.{Meaning, assigned}
+use Rattle.relations.specs.Meaning.{assigned}
 use Rattle.words.specs.Words.{tabulate, Triple, rows, row_at, meant}
-use Rattle.words.specs.State.{State, Fit, view}
+use Rattle.words.specs.State.{State, view}
 use Rattle.words.proofs.Tables.{tabulate_at}
 use Rattle.words.proofs.Areas.{rows_length}
 use Rattle.systems.specs.Unmet.{met, unmet_from, first_unmet}

@@ -1,14 +1,14 @@
 -- What a system over words means: its lengths, what it uses, what its variables are.
-use Rattle.std.proofs.Common.{◌≡◌, ℕ, zero, suc, ◌+◌, ◌-◌, ◌*◌, ◌/◌, ◌%◌, ◌<◌, ◌≤◌, Bool, true, false, cond, ◌&&◌, eqb, ltb, leb, List, [], ◌∷◌, ◌++◌, map, length, get_or, Some, None, Ok, Err, Option, Result, sym, refl, ap, ◌∙◌, subst, mod-lt, arith, ltb-true, true-eqb}
+use Rattle.std.proofs.Common.{◌≡◌, ℕ, ◌+◌, ◌-◌, ◌*◌, ◌/◌, ◌%◌, ◌<◌, Bool, true, false, cond, ◌&&◌, eqb, ltb, List, [], ◌∷◌, length, get_or, Some, None, Ok, Err, Option, Result, sym, refl, ap, ◌∙◌, subst, mod-lt, arith, ltb-true, true-eqb}
 use Rattle.std.proofs.lemmas.List.{length-map}
 use Rattle.relations.specs.declared.fault.SystemFault.{SystemFault}
 use Rattle.relations.specs.declared.fault.SystemFault.TheVariants.{UnknownVariable}
 use Rattle.relations.specs.declared.term.Variable.{Variable}
 use Rattle.relations.specs.declared.term.Variable.TheVariants.{One, Zero, Input, Witness, Combination}
 use Rattle.relations.specs.declared.term.Term.{Term}
-use Rattle.relations.specs.Sum.{Pairs, code, decode, handed, code_in, all_in, value, sum_of}
-use Rattle.relations.specs.Meaning.{Meaning, Combo, known, all_known, number, places, rows_use, used, has, has_all, assigned, ask, combos_within, rows_within, Sane}
-use Rattle.words.specs.Words.{tabulate, combinations, combo, rows, meant, there, all_there, word_of, worth, Reads, Small}
+use Rattle.relations.specs.Sum.{Pairs, code, decode, handed, code_in, all_in, value}
+use Rattle.relations.specs.Meaning.{known, all_known, number, places, rows_use, used, has, has_all, assigned, ask, combos_within, rows_within, Sane}
+use Rattle.words.specs.Words.{combinations, combo, rows, meant, there, all_there, word_of, worth, Reads, Small}
 use Rattle.words.specs.State.{State, Fit, view}
 use Rattle.words.proofs.Tables.{tabulate_length, tabulate_at}
 use Rattle.words.proofs.Areas.{combinations_used, combinations_length, rows_length, rows_used}

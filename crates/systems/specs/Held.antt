@@ -1,5 +1,5 @@
 -- What a system over lent words holds.
-use Rattle.std.specs.Prelude.{◌≡◌, ℕ, ◌+◌, ◌-◌, ◌*◌, ◌<◌, ◌≤◌, Bool, true, false, List, length, take, Err}
+use Rattle.std.specs.Prelude.{◌≡◌, ℕ, ◌+◌, ◌-◌, ◌≤◌, true, false, List, length, take, Err}
 use Rattle.systems.specs.declared.lent.Store.{Store}
 use Rattle.systems.specs.declared.lent.Lent.{Lent}
 use Rattle.relations.specs.declared.term.Term.{Term}

@@ -1,5 +1,5 @@
 -- The first row that the kept values do not meet.
-use Rattle.std.specs.Prelude.{ℕ, ◌+◌, ◌*◌, ◌%◌, Bool, true, false, cond, List, [], ◌∷◌, Some, None, Option, ◌==◌}
+use Rattle.std.specs.Prelude.{ℕ, ◌+◌, ◌*◌, ◌%◌, Bool, cond, List, [], ◌∷◌, Some, None, Option, ◌==◌}
 use Rattle.relations.specs.declared.term.Variable.{Variable}
 use Rattle.relations.specs.Sum.{Row}
 use Rattle.relations.specs.Meaning.{Meaning, assigned}

@@ -1,11 +1,11 @@
 -- A book's answers below its count.
-use Rattle.std.proofs.Common.{◌≡◌, ℕ, ◌+◌, ◌<◌, ◌≤◌, min, true, false, ltb, List, [], ◌∷◌, ◌++◌, map, length, get_or, take, set, Some, None, sym, refl, ap, ◌∙◌, subst, arith, length-take, le-ltb, lt-ltb}
+use Rattle.std.proofs.Common.{◌≡◌, ℕ, ◌+◌, ◌<◌, ◌≤◌, min, true, false, ltb, List, [], ◌∷◌, ◌++◌, length, get_or, take, set, Some, None, sym, ap, ◌∙◌, arith, length-take, le-ltb, lt-ltb}
 use Rattle.command.specs.declared.commands.Kind.TheVariants.{Number as a_number}
 use Rattle.command.specs.declared.answers.Answer.{Answer}
 use Rattle.command.specs.Decide.{kind_at}
 use Rattle.command.specs.Answers.{kind_of, kinds}
 use lib.ListN.{length-map}
-use Rattle.std.proofs.lemmas.List.{get_or-take, get_or_past, get_or_default, get_or-map, take_more_set, take_all}
+use Rattle.std.proofs.lemmas.List.{get_or-take, get_or_past, get_or_default, get_or-map, take_more_set}
 
 pub count_is : {X : Type 0} (n : ℕ) (xs : List X) (r : ℕ) → r ≡ min n (length xs) → r ≡ length (take n xs)
 count_is n xs r e = e ∙ sym (length-take n xs)

@@ -1,21 +1,19 @@
 -- A command's steps in the code are those of its definition.
-use Rattle.std.proofs.Common.{◌≡◌, ℕ, ◌+◌, ◌<◌, ◌≤◌, Bool, true, false, cond, ◌&&◌, ltb, leb, List, [], ◌∷◌, ◌++◌, length, Ok, Err, Result, sym, refl, ap, ◌∙◌, subst, arith, lt-ltb, leb-true}
+use Rattle.std.proofs.Common.{◌≡◌, ℕ, ◌+◌, ◌<◌, Bool, true, false, cond, leb, List, [], ◌∷◌, ◌++◌, length, Ok, Err, Result, sym, refl, ap, ◌∙◌, subst, arith, leb-true}
 use lib.ListN.{length-map}
-use Rattle.boolean.specs.declared.bits.Boolean.{Boolean}
 use Rattle.relations.specs.declared.fault.GadgetFault.{GadgetFault}
 use Rattle.relations.specs.Meaning.{Meaning, Stored, Leaves}
-use Rattle.relations.specs.Script.{Script, answer, then, run, whole, over}
+use Rattle.relations.specs.Script.{run, whole, over}
 use Rattle.relations.proofs.Then.{whole_over}
 use Rattle.command.specs.declared.commands.Kind.{Kind}
 use Rattle.command.specs.declared.commands.Command.{Command}
 use Rattle.command.specs.declared.commands.Command.TheVariants.{Bit as BitCommand, Clone, Not, Gated}
 use Rattle.command.specs.declared.answers.Answer.{Answer}
-use Rattle.command.specs.declared.answers.Answer.TheVariants.{Bit}
 use Rattle.command.specs.declared.fault.TapeFault.{TapeFault}
 use Rattle.command.specs.declared.fault.TapeFault.TheVariants.{Gadget, Operand, BookFull}
 use Rattle.command.specs.Decide.{fits, answers, checked}
-use Rattle.command.specs.Answers.{kinds, kind_of, action, action_script, command_script}
-use Rattle.readings.specs.State.{State, state, filed, performed, executed}
+use Rattle.command.specs.Answers.{kinds, kind_of, action, action_script}
+use Rattle.readings.specs.State.{state, filed, performed, executed}
 
 -- an accepted check
 pub passed : (r : Result (List Kind) TapeFault) → ◌≡◌ {A = Result (Unit {0}) TapeFault} (Ok tt) (over (λ _. tt) r) → (ks : List Kind) × (r ≡ Ok ks)

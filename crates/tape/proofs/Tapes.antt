@@ -1,5 +1,5 @@
 -- A tape's commands one after another.
-use Rattle.std.proofs.Common.{◌≡◌, ℕ, suc, ◌+◌, ◌-◌, ◌<◌, ◌≤◌, Bool, true, false, cond, ◌&&◌, eqb, ltb, leb, List, [], ◌∷◌, ◌++◌, length, get_or, take, drop, Some, None, Ok, Err, Option, Result, sym, refl, ap, ◌∙◌, subst, ap₂, append_assoc, append-nil, arith, length-drop, le-ltb, lt-ltb, leb-true, false-eqb}
+use Rattle.std.proofs.Common.{◌≡◌, ℕ, ◌+◌, ◌-◌, ◌<◌, ◌≤◌, Bool, true, false, cond, ◌&&◌, eqb, ltb, leb, List, [], ◌∷◌, ◌++◌, length, get_or, take, drop, Some, None, Ok, Err, Option, Result, sym, refl, ap, ◌∙◌, subst, append_assoc, append-nil, arith, length-drop, le-ltb, lt-ltb, leb-true, false-eqb}
 use Rattle.std.proofs.lemmas.List.{take_all}
 use Rattle.relations.specs.declared.fault.Refusal.{Refusal}
 use Rattle.relations.specs.Script.{over}
@@ -12,7 +12,7 @@ use Rattle.command.specs.Refusals.{of_tape}
 use Rattle.command.specs.Tape.{bytes, spelled, decoded}
 use Rattle.readings.specs.State.{State, executed}
 use Rattle.readings.specs.Runs.{History, Running, Promise, decided}
-use Rattle.tape.specs.Tape.{Reads, nothing, further, line, lines, last_line, outcome_line, Next, Whole, Ends, Taped, Progress}
+use Rattle.tape.specs.Tape.{Reads, nothing, further, line, lines, last_line, outcome_line, Next, Taped, Progress}
 
 -- a refusal that was decided
 pub err_decided : (d : Result (List Kind) TapeFault) (f : TapeFault) → ◌≡◌ {A = Result (Unit {0}) TapeFault} (Err f) (over (λ ks. tt) d) → d ≡ Err f

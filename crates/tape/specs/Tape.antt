@@ -1,6 +1,5 @@
 -- A tape's commands as a run's history, and what a run of a tape comes to.
-use Rattle.std.specs.Prelude.{◌≡◌, ℕ, ◌+◌, ◌<◌, ◌≤◌, Bool, true, false, cond, ◌&&◌, List, [], ◌∷◌, ◌++◌, length, drop, Some, None, Ok, Err, Option, Result, nat_lt}
-use Rattle.relations.specs.Fault.{refusal}
+use Rattle.std.specs.Prelude.{◌≡◌, ℕ, ◌+◌, ◌<◌, ◌≤◌, cond, ◌&&◌, List, [], ◌∷◌, ◌++◌, length, drop, Some, None, Ok, Err, Option, Result, nat_lt}
 use Rattle.command.specs.declared.commands.Kind.{Kind}
 use Rattle.command.specs.declared.commands.Decoded.{Decoded}
 use Rattle.command.specs.declared.fault.TapeFault.{TapeFault}

@@ -1,9 +1,9 @@
 -- Combinations from the front and rows from the back, and what writes elsewhere leave.
-use Rattle.std.proofs.Common.{◌≡◌, ℕ, zero, suc, ◌+◌, ◌-◌, ◌*◌, ◌/◌, ◌%◌, ◌<◌, ◌≤◌, Bool, true, false, cond, ◌&&◌, List, [], ◌∷◌, ◌++◌, map, length, get_or, sym, refl, ap, ◌∙◌, subst, add-one, arith, length-append}
-use Rattle.std.proofs.lemmas.List.{map-append, length-map}
+use Rattle.std.proofs.Common.{◌≡◌, ℕ, zero, suc, ◌+◌, ◌-◌, ◌*◌, ◌/◌, ◌%◌, ◌<◌, ◌≤◌, List, [], ◌∷◌, ◌++◌, map, length, get_or, sym, refl, ap, ◌∙◌, subst, add-one, arith, length-append}
+use Rattle.std.proofs.lemmas.List.{map-append}
 use Rattle.relations.specs.Sum.{Row}
-use Rattle.relations.specs.Meaning.{Combo, places, rows_use, row_use}
-use Rattle.words.specs.Words.{Same, pairs, Kept, combination, combo, heading, combinations, Chain, Head, Tagged, part, Triple, row_at, rows, Placed, floor, Stack, meant}
+use Rattle.relations.specs.Meaning.{Combo, places, rows_use}
+use Rattle.words.specs.Words.{Same, pairs, combination, combo, heading, combinations, Chain, Head, Tagged, part, row_at, rows, Placed, floor, Stack, meant}
 use Rattle.words.proofs.Frames.{pairs_same, length_pairs}
 
 -- combinations

@@ -1,5 +1,5 @@
 -- A combination written: its terms, and then its heading.
-use Rattle.std.proofs.Common.{◌≡◌, ℕ, ◌+◌, ◌-◌, ◌*◌, ◌<◌, ◌≤◌, List, length, get_or, sym, refl, ap, ◌∙◌, subst, arith}
+use Rattle.std.proofs.Common.{◌≡◌, ℕ, ◌+◌, ◌*◌, List, length, sym, ◌∙◌, subst, arith}
 use Rattle.relations.specs.declared.term.Term.{Term}
 use Rattle.words.specs.Words.{pairs, whole, LcWritten}
 use Rattle.words.proofs.Frames.{pairs_same, Put}

@@ -1,9 +1,9 @@
 -- Reading lists from their ends, and cutting them.
-use Rattle.std.proofs.Common.{◌≡◌, ℕ, zero, suc, ◌+◌, ◌-◌, ◌*◌, ◌/◌, ◌%◌, ◌<◌, ◌≤◌, Bool, true, false, cond, ◌&&◌, eqb, ltb, ◌⊎◌, List, [], ◌∷◌, ◌++◌, map, length, get_or, take, sym, refl, ap, ◌∙◌, subst, inl, inr, eq-or-lt_of_le, arith, length-append, ltb-true, lt-ltb}
-use Rattle.std.proofs.lemmas.List.{take-append-le, take_all, take-map, map-append}
-use Rattle.relations.specs.Sum.{Sum, Row, Pairs, code_in, all_in}
-use Rattle.relations.specs.Meaning.{Combo, combos_within, row_within, rows_within}
-use Rattle.words.specs.Words.{pairs, plain, Kept, combination, combo, heading, combinations, Chain, Tagged, part, Triple, row_at, rows, Placed, floor, Stack, meant, lists_in, triple_in, triples_in}
+use Rattle.std.proofs.Common.{◌≡◌, ℕ, zero, suc, ◌+◌, ◌-◌, ◌*◌, ◌/◌, ◌%◌, ◌<◌, ◌≤◌, Bool, true, false, cond, ◌&&◌, eqb, ltb, List, [], ◌∷◌, ◌++◌, map, get_or, take, sym, refl, ap, ◌∙◌, subst, inl, inr, eq-or-lt_of_le, arith, ltb-true, lt-ltb}
+use Rattle.std.proofs.lemmas.List.{take-append-le, take_all}
+use Rattle.relations.specs.Sum.{Pairs, code_in, all_in}
+use Rattle.relations.specs.Meaning.{combos_within, rows_within}
+use Rattle.words.specs.Words.{pairs, Kept, combination, combo, heading, combinations, Chain, Tagged, Triple, row_at, rows, floor, Stack, meant, lists_in, triple_in, triples_in}
 use Rattle.words.proofs.Areas.{combinations_length, rows_length, floor_below}
 
 -- the test of a list by its last

@@ -1,8 +1,8 @@
 -- The tag in its word tells whether a heading stands at a place, and the word beside it is the combination's value.
-use Rattle.std.proofs.Common.{◌≡◌, ℕ, zero, suc, ◌+◌, ◌-◌, ◌*◌, ◌/◌, ◌%◌, ◌<◌, ◌≤◌, Bool, true, false, cond, ◌&&◌, eqb, ltb, List, [], ◌∷◌, ◌++◌, map, length, get_or, sym, refl, ap, ◌∙◌, subst, arith, ltb-false, ltb-true, le-ltb, lt-ltb, eq-eqb, ne_eqb, true-eqb, false-eqb}
+use Rattle.std.proofs.Common.{◌≡◌, ℕ, zero, suc, ◌+◌, ◌-◌, ◌*◌, ◌%◌, ◌<◌, ◌≤◌, Bool, true, false, cond, eqb, ltb, List, [], ◌∷◌, ◌++◌, map, get_or, sym, refl, ap, ◌∙◌, subst, arith, ltb-false, ltb-true, le-ltb, lt-ltb, eq-eqb, ne_eqb, true-eqb, false-eqb}
 use Rattle.std.proofs.lemmas.List.{map-append}
 use Rattle.relations.specs.Meaning.{Combo, places, is_head, kept_at, number}
-use Rattle.words.specs.Words.{pairs, combination, combo, heading, combinations, Chain, Tagged}
+use Rattle.words.specs.Words.{combination, combo, heading, combinations, Chain, Tagged}
 use Rattle.words.proofs.Frames.{length_pairs}
 use Rattle.words.proofs.Areas.{combinations_used}
 

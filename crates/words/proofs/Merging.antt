@@ -1,5 +1,5 @@
 -- Merged terms mean the same sum.
-use Rattle.std.proofs.Common.{◌≡◌, ℕ, zero, suc, ◌+◌, ◌-◌, ◌*◌, ◌%◌, ◌<◌, ◌≤◌, Bool, true, false, cond, ◌&&◌, eqb, List, [], ◌∷◌, ◌++◌, length, sym, refl, ap, ◌∙◌, subst, mod-lt, mod-eq_of_lt, arith, eq-eqb, true-eqb}
+use Rattle.std.proofs.Common.{◌≡◌, ℕ, ◌+◌, ◌%◌, ◌<◌, Bool, true, false, cond, eqb, [], ◌∷◌, sym, refl, ap, ◌∙◌, subst, mod-lt, mod-eq_of_lt, arith, eq-eqb, true-eqb}
 use Rattle.relations.specs.Sum.{Pairs, total, named, weight, merged}
 
 clash : {A : Type 0} → ◌≡◌ {A = Bool} true false → A

@@ -1,7 +1,7 @@
 -- A row written below a place.
-use Rattle.std.proofs.Common.{◌≡◌, ℕ, zero, suc, ◌+◌, ◌-◌, ◌*◌, ◌/◌, ◌%◌, ◌<◌, ◌≤◌, List, [], ◌∷◌, ◌++◌, length, get_or, sym, refl, ap, ◌∙◌, subst, arith}
+use Rattle.std.proofs.Common.{◌≡◌, ℕ, ◌+◌, ◌-◌, ◌*◌, ◌≤◌, List, length, get_or, sym, ap, ◌∙◌, subst, arith}
 use Rattle.relations.specs.declared.term.Term.{Term}
-use Rattle.words.specs.Words.{pairs, part, Triple, row_at, Placed, PartsFit, Parts, Places, RowWritten, whole, triple}
+use Rattle.words.specs.Words.{pairs, PartsFit, Parts, Places, RowWritten, whole}
 use Rattle.words.proofs.Frames.{pairs_same, Put}
 use Rattle.words.proofs.Storing.{Held}
 

@@ -1,9 +1,9 @@
 -- What the words tell of variables is what a system's lists tell.
-use Rattle.std.proofs.Common.{◌≡◌, ℕ, zero, suc, ◌+◌, ◌-◌, ◌*◌, ◌/◌, ◌%◌, ◌<◌, ◌≤◌, Bool, true, false, cond, ◌&&◌, eqb, ltb, ◌⊎◌, List, [], ◌∷◌, ◌++◌, map, length, get_or, sym, refl, ap, ◌∙◌, subst, inl, inr, eq-or-lt_of_le, arith, ltb-false, ltb-true, le-ltb, lt-ltb}
+use Rattle.std.proofs.Common.{◌≡◌, ℕ, zero, suc, ◌+◌, ◌*◌, ◌/◌, ◌%◌, ◌<◌, ◌≤◌, Bool, true, false, cond, ◌&&◌, eqb, ltb, List, [], ◌∷◌, ◌++◌, map, get_or, sym, refl, ap, ◌∙◌, subst, inl, inr, eq-or-lt_of_le, arith, ltb-false, ltb-true, lt-ltb}
 use Rattle.relations.specs.declared.term.Variable.{Variable}
 use Rattle.relations.specs.declared.term.Variable.TheVariants.{One, Zero, Input, Witness, Combination}
 use Rattle.relations.specs.declared.term.Term.{Term}
-use Rattle.relations.specs.Sum.{Pairs, code, decode, handed, weight, merged, code_in, all_in}
+use Rattle.relations.specs.Sum.{Pairs, code, handed, weight, merged, code_in, all_in}
 use Rattle.relations.specs.Meaning.{Combo, places, is_head, known, all_known}
 use Rattle.words.specs.Words.{pairs, combo, combinations, Chain, Tagged, there, all_there, whole, Small}
 use Rattle.words.proofs.Heads.{head_test, head_far, head_under}

@@ -1,10 +1,10 @@
 -- A sum's value follows from its coefficients alone, whatever the order of its terms.
-use Rattle.std.proofs.Common.{◌≡◌, ℕ, zero, suc, ◌+◌, ◌-◌, ◌*◌, ◌/◌, ◌%◌, ◌<◌, ◌≤◌, Bool, true, false, cond, ◌&&◌, eqb, ◌⊎◌, List, [], ◌∷◌, ◌++◌, length, sym, refl, ap, ◌∙◌, subst, inl, inr, mod-lt, mod-eq_of_lt, mul_assoc, add-mul, eq-or-lt_of_le, arith, eq-eqb, ne_eqb}
+use Rattle.std.proofs.Common.{◌≡◌, ℕ, zero, suc, ◌+◌, ◌*◌, ◌/◌, ◌%◌, ◌<◌, ◌≤◌, Bool, true, false, cond, eqb, List, [], ◌∷◌, length, sym, refl, ap, ◌∙◌, subst, inl, inr, mod-lt, mod-eq_of_lt, mul_assoc, add-mul, eq-or-lt_of_le, arith, eq-eqb, ne_eqb}
 use native.Mathlib.Nat.{add-mod, mod-mod, div-add-mod, mul-add-mod_self_left, zero-mod}
 use Rattle.relations.specs.declared.term.Term.{Term}
-use Rattle.relations.specs.Sum.{Pairs, handed, total, merged, value, decode, code, Sum, sum_of, all_in}
+use Rattle.relations.specs.Sum.{Pairs, handed, total, value, decode, code, sum_of, all_in}
 use Rattle.words.specs.Words.{plain, whole}
-use Rattle.words.proofs.Merging.{total_below, merged_total}
+use Rattle.words.proofs.Merging.{merged_total}
 
 abbrev pub sum_to : ℕ → (ℕ → ℕ) → ℕ
 sum_to zero f = 0

@@ -1,8 +1,8 @@
 -- The value of terms under kept words, from the last term down.
-use Rattle.std.proofs.Common.{◌≡◌, ℕ, zero, suc, ◌+◌, ◌-◌, ◌*◌, ◌/◌, ◌%◌, ◌<◌, ◌≤◌, Bool, true, false, cond, ◌&&◌, List, [], ◌∷◌, ◌++◌, length, get_or, drop, sym, refl, ap, ◌∙◌, subst, arith}
+use Rattle.std.proofs.Common.{◌≡◌, ℕ, zero, suc, ◌+◌, ◌-◌, ◌*◌, ◌%◌, ◌<◌, ◌≤◌, Bool, true, false, ◌&&◌, List, [], ◌∷◌, ◌++◌, length, get_or, drop, sym, refl, ap, ◌∙◌, arith}
 use Rattle.std.proofs.lemmas.List.{at_drop_more, at_drop_all}
 use Rattle.relations.specs.declared.term.Term.{Term}
-use Rattle.relations.specs.Sum.{Pairs, code, decode, counted, handed, code_in, all_in, value}
+use Rattle.relations.specs.Sum.{Pairs, code, decode, counted, handed, code_in, all_in}
 use Rattle.words.specs.Words.{pairs, word_of, worth}
 
 both : (a b : Bool) → a && b ≡ true → (a ≡ true) × (b ≡ true)

@@ -1,5 +1,5 @@
 -- A system as words hold it: its counts and rooms, and the three lent buffers.
-use Rattle.std.specs.Prelude.{◌≡◌, ℕ, ◌+◌, ◌-◌, ◌*◌, ◌<◌, ◌≤◌, Bool, true, false, List, map, length, Some, slice_index}
+use Rattle.std.specs.Prelude.{◌≡◌, ℕ, ◌+◌, ◌-◌, ◌*◌, ◌<◌, ◌≤◌, true, false, List, map, length, Some, slice_index}
 use Rattle.relations.specs.Meaning.{Meaning, Stored}
 use Rattle.words.specs.Words.{tabulate, combinations, combo, Chain, Tagged, rows, meant, floor, Stack, lists_in, triples_in}
 

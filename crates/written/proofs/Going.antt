@@ -11,7 +11,7 @@ use Rattle.words.proofs.Frames.{length_pairs}
 use Rattle.words.proofs.Areas.{places_append, combinations_used}
 use Rattle.words.proofs.Cuts.{Last, last}
 use Rattle.written.specs.declared.Counts.{Counts}
-use Rattle.written.specs.Cells.{cells, variable_at, Beyond, Below, Holds, Spread, newest_first, Over}
+use Rattle.written.specs.Cells.{variable_at, Beyond, Below, Holds, Spread, newest_first, Over}
 use Rattle.written.proofs.Cells.{at_input, at_witness, at_combination}
 use Rattle.written.proofs.Adding.{spread_below}
 

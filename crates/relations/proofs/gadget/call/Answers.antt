@@ -1,5 +1,4 @@
-use Rattle.std.proofs.Common.{◌≡◌, Ok, Err, sym, ap, ◌∙◌, rules}
-use Rattle.relations.specs.Meaning.{Meaning, Stored, Begins}
+use Rattle.std.proofs.Common.{Ok, sym, ap, ◌∙◌, rules}
 use Rattle.relations.specs.Script.{restored}
 use Rattle.relations.proofs.Undone.{Marks, undone, never_stuck, system_back, words_back, begins_refl, same_begins}
 use Rattle.relations.proofs.gadget.call.Goals as goal

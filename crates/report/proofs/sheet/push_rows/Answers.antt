@@ -1,4 +1,4 @@
-use Rattle.std.proofs.Common.{◌≡◌, ◌<◌, ◌≤◌, [], length, get_or, string_bytes, sym, refl, ap, ◌∙◌, append-nil, arith}
+use Rattle.std.proofs.Common.{◌<◌, ◌≤◌, [], length, get_or, string_bytes, sym, refl, ap, append-nil, arith}
 use Rattle.systems.specs.Held.{meant_by}
 use Rattle.report.specs.Text.{Sums, row_text, rows_text}
 use Rattle.report.specs.Sheet.{sums_of, page_of, line_text}

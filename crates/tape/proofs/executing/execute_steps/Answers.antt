@@ -1,11 +1,11 @@
-use Rattle.std.proofs.Common.{◌≡◌, ℕ, Bool, true, cond, List, [], ◌∷◌, ◌++◌, Ok, Err, Result, sym, refl, ap, ◌∙◌, subst, rules, lt-ltb}
+use Rattle.std.proofs.Common.{◌≡◌, Bool, true, cond, [], ◌∷◌, ◌++◌, Ok, Err, Result, sym, ap, ◌∙◌, subst, rules, lt-ltb}
 use Rattle.std.proofs.lemmas.Result.{err_from_is_err_and}
 use Rattle.relations.specs.Meaning.{Leaves}
 use Rattle.relations.specs.Script.{run, whole, over}
 use Rattle.command.specs.declared.fault.TapeFault.{TapeFault}
 use Rattle.command.specs.declared.answers.Action.{Action}
 use Rattle.command.specs.Decide.{checked}
-use Rattle.command.specs.Answers.{kinds, action, action_script}
+use Rattle.command.specs.Answers.{kinds, action_script}
 use Rattle.tape.specs.Book.{held_by, places_of}
 use Rattle.readings.specs.State.{state}
 use Rattle.tape.proofs.Executes.{has_place, accepted, refused}

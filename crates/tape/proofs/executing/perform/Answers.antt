@@ -1,4 +1,4 @@
-use Rattle.std.proofs.Common.{◌≡◌, sym, ap, ◌∙◌, rules}
+use Rattle.std.proofs.Common.{sym, ap, ◌∙◌, rules}
 use Rattle.relations.specs.Script.{run, whole}
 use Rattle.relations.proofs.Then.{whole_over}
 use Rattle.boolean.specs.Booleans.{call_script}

@@ -1,4 +1,4 @@
-use Rattle.std.proofs.Common.{◌≡◌, vec_items, Result, sym, refl, ap, ◌∙◌, rules}
+use Rattle.std.proofs.Common.{vec_items, Result, sym, refl, ap, rules}
 use Rattle.command.specs.declared.fault.TapeFault.{TapeFault}
 use Rattle.readings.specs.State.{State}
 use Rattle.readings.specs.Runs.{decided}

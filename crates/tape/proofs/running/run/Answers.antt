@@ -1,8 +1,6 @@
-use Rattle.std.proofs.Common.{◌≡◌, ℕ, List, [], length, drop, Some, None, Ok, Err, vec_items, Option, Result, sym, refl, ap, ◌∙◌, subst, arith, length-drop, rules}
+use Rattle.std.proofs.Common.{ℕ, [], drop, Some, None, Ok, vec_items, Result, sym, subst, arith, length-drop}
 use Rattle.std.proofs.lemmas.Result.{err_from_is_err_and}
 use Rattle.std.specs.declared.alloc.AllocError.{AllocError}
-use Rattle.command.specs.declared.answers.Refused.{Refused}
-use Rattle.readings.specs.State.{State}
 use Rattle.readings.specs.Runs.{History, Running}
 use Rattle.readings.proofs.Step.{running_begins, promised}
 use Rattle.tape.specs.State.{state_of}

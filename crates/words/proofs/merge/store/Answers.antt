@@ -1,6 +1,6 @@
-use Rattle.std.proofs.Common.{◌≡◌, ℕ, ◌+◌, ◌*◌, ◌<◌, ◌≤◌, List, length, drop, sym, ap, ◌∙◌, subst, arith, rules}
+use Rattle.std.proofs.Common.{ℕ, ◌+◌, ◌*◌, ◌≤◌, length, drop, sym, ap, ◌∙◌, arith}
 use Rattle.relations.specs.Sum.{weight, handed}
-use Rattle.words.proofs.Storing.{Storing, start, skipped, put_in, fine, Fine, ended}
+use Rattle.words.proofs.Storing.{start, skipped, put_in, fine, Fine, ended}
 use Rattle.words.specs.Words.{whole}
 use Rattle.words.proofs.merge.store.Goals as goal
 use Rattle.words.proofs.merge.store.Goals.{then-counts, else-counts}

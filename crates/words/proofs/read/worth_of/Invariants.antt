@@ -1,4 +1,4 @@
-use Rattle.std.proofs.Common.{◌≡◌, ◌<◌, ◌≤◌, length, drop}
+use Rattle.std.proofs.Common.{◌≡◌, ◌≤◌, length, drop}
 use Rattle.relations.specs.Sum.{handed}
 use Rattle.words.specs.Words.{worth}
 use Rattle.words.proofs.read.worth_of.Given as goal

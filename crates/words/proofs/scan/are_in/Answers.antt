@@ -1,4 +1,4 @@
-use Rattle.std.proofs.Common.{refl, arith, rules}
+use Rattle.std.proofs.Common.{refl, rules}
 use Rattle.words.proofs.Cuts.{pairs_kept, pairs_fail}
 use Rattle.words.proofs.scan.are_in.Goals as goal
 

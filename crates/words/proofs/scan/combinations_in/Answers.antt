@@ -1,4 +1,4 @@
-use Rattle.std.proofs.Common.{◌≡◌, ℕ, ◌-◌, ◌<◌, ◌≤◌, sym, refl, subst, arith, rules}
+use Rattle.std.proofs.Common.{arith}
 use Rattle.words.proofs.Cuts.{Last, last, seen_step, seen_fail}
 use Rattle.words.proofs.scan.combinations_in.Goals as goal
 

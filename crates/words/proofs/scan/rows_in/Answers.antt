@@ -1,4 +1,4 @@
-use Rattle.std.proofs.Common.{refl, arith, rules}
+use Rattle.std.proofs.Common.{refl, rules}
 use Rattle.words.proofs.Cuts.{rows_kept, rows_fail}
 use Rattle.words.proofs.scan.rows_in.Goals as goal
 

@@ -1,4 +1,4 @@
-use Rattle.std.proofs.Common.{◌≡◌, ℕ, Bool, true, false, ◌&&◌, leb, length, sym, refl, ap, ◌∙◌, arith, le-ltb, lt-ltb, leb-true}
+use Rattle.std.proofs.Common.{◌≡◌, ℕ, Bool, true, ◌&&◌, leb, length, sym, refl, ap, ◌∙◌, arith, le-ltb, lt-ltb, leb-true}
 use Rattle.written.specs.declared.Counts.{Counts}
 use Rattle.written.specs.Cells.{cells}
 use Rattle.systems.specs.Held.{state}

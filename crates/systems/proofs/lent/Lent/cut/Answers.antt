@@ -1,4 +1,4 @@
-use Rattle.std.proofs.Common.{true, false, sym, arith}
+use Rattle.std.proofs.Common.{true, false, sym}
 use Rattle.systems.specs.Held.{state}
 use Rattle.systems.proofs.Rewinds.{long_inputs, long_witnesses, long_lcs, long_rows, names_cut, verdict}
 use Rattle.systems.proofs.lent.Lent.cut.Goals as goal

@@ -1,4 +1,4 @@
-use Rattle.std.proofs.Common.{◌≡◌, ℕ, eqb, ap, ◌∙◌}
+use Rattle.std.proofs.Common.{ℕ, eqb, ap, ◌∙◌}
 use Rattle.words.specs.Words.{row_at}
 use Rattle.words.proofs.Cuts.{Lies, lies, row_each, triple_each}
 use Rattle.systems.specs.Held.{state}

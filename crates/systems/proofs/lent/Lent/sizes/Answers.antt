@@ -1,4 +1,4 @@
-use Rattle.std.proofs.Common.{◌≡◌, ◌+◌, ◌-◌, ◌<◌, ◌≤◌, sym, leb-false, leb-true}
+use Rattle.std.proofs.Common.{sym, leb-false, leb-true}
 use Rattle.systems.specs.Held.{state}
 use Rattle.systems.proofs.Calls.{row_unknown_a, row_unknown_b, row_unknown_c, row_terms_full}
 use Rattle.systems.proofs.lent.Lent.sizes.Goals as goal

@@ -1,4 +1,4 @@
-use Rattle.std.proofs.Common.{◌≡◌, ℕ, ◌<◌, sym, ◌∙◌, subst}
+use Rattle.std.proofs.Common.{ℕ, ◌<◌, sym, ◌∙◌, subst}
 use Rattle.relations.specs.Sum.{handed, decode}
 use Rattle.relations.specs.Meaning.{assigned}
 use Rattle.words.specs.State.{view}

@@ -1,4 +1,4 @@
-use Rattle.std.proofs.Common.{◌≡◌, ◌∙◌, arith}
+use Rattle.std.proofs.Common.{◌∙◌, arith}
 use Rattle.words.specs.Words.{pairs}
 use Rattle.systems.specs.Held.{state}
 use Rattle.systems.proofs.Views.{reads, worth_is}

@@ -1,4 +1,4 @@
-use Rattle.std.proofs.Common.{◌≡◌, ℕ, Ok, Err, sym, ap, subst}
+use Rattle.std.proofs.Common.{ℕ, Ok, Err, sym, ap, subst}
 use Rattle.relations.specs.Meaning.{admit, Ran}
 use Rattle.words.specs.State.{view}
 use Rattle.systems.specs.Held.{state}

@@ -1,4 +1,4 @@
-use Rattle.std.proofs.Common.{◌≡◌, ℕ, ◌+◌, ◌-◌, ◌<◌, ◌≤◌, Ok, Err, sym, ap, ◌∙◌, subst, arith}
+use Rattle.std.proofs.Common.{◌≡◌, ℕ, ◌+◌, ◌-◌, Ok, Err, ap, ◌∙◌, subst, arith}
 use Rattle.relations.specs.declared.fault.SystemFault.TheVariants.{RowsFull}
 use Rattle.relations.specs.Meaning.{enforce}
 use Rattle.words.specs.State.{State, with_row}

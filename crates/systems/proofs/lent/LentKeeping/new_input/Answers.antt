@@ -1,4 +1,4 @@
-use Rattle.std.proofs.Common.{◌≡◌, ℕ, ◌+◌, ◌<◌, set, Some, Ok, Err, Option, sym, ap, ◌∙◌, subst, arith}
+use Rattle.std.proofs.Common.{ℕ, ◌<◌, set, Some, Ok, Err, Option, sym, ap, ◌∙◌, subst, arith}
 use Rattle.std.specs.Option.{option_map}
 use Rattle.relations.specs.declared.term.Variable.TheVariants.{Input}
 use Rattle.relations.specs.declared.fault.SystemFault.TheVariants.{MissingValue}

@@ -1,4 +1,4 @@
-use Rattle.std.proofs.Common.{◌≡◌, ℕ, ◌+◌, ◌-◌, ◌<◌, ◌≤◌, Ok, Err, sym, ap, ◌∙◌, subst, arith}
+use Rattle.std.proofs.Common.{ℕ, ◌+◌, ◌-◌, ◌<◌, ◌≤◌, Ok, Err, sym, ap, ◌∙◌, subst, arith}
 use Rattle.relations.specs.declared.term.Variable.TheVariants.{Combination}
 use Rattle.relations.specs.declared.fault.SystemFault.TheVariants.{UnknownVariable, TermsFull}
 use Rattle.relations.specs.Meaning.{new_lc}

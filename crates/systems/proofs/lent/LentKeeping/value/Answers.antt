@@ -1,5 +1,4 @@
-use Rattle.std.proofs.Common.{◌≡◌, ℕ, ◌%◌, ◌<◌, Bool, cond, Some, Ok, Err, sym, ap, ◌∙◌, subst, mod-eq_of_lt}
-use Rattle.relations.specs.declared.fault.SystemFault.TheVariants.{UnknownVariable}
+use Rattle.std.proofs.Common.{ℕ, ◌%◌, ◌<◌, sym, ap, ◌∙◌, subst, mod-eq_of_lt}
 use Rattle.relations.specs.Meaning.{assigned}
 use Rattle.words.specs.State.{view}
 use Rattle.systems.specs.Held.{state}

@@ -1,4 +1,4 @@
-use Rattle.std.proofs.Common.{◌≡◌, ◌<◌, min, true, length, set, sym, ◌∙◌, arith, length-set, rules, lt-ltb}
+use Rattle.std.proofs.Common.{◌<◌, length, arith, rules}
 use Rattle.tape.proofs.Books.{more}
 use Rattle.tape.proofs.book.Book.push.Goals as goal
 

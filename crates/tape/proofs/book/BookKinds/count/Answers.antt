@@ -1,4 +1,4 @@
-use Rattle.std.proofs.Common.{◌≡◌, take, sym, ◌∙◌}
+use Rattle.std.proofs.Common.{take, sym, ◌∙◌}
 use lib.ListN.{length-map}
 use Rattle.command.specs.Answers.{kind_of}
 use Rattle.tape.proofs.book.BookKinds.count.Goals as goal
