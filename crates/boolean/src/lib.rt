@@ -1,9 +1,13 @@
+// Bits of a circuit, constants folded, and the calls on them: as steps of a gadget, and as gadgets that are whole or not at all.
 #![tactic(auto)]
-// Bits of a circuit, constants folded, and the calls on them as gadgets.
+
+mod alloc;
 mod bits;
 mod boolean;
-mod gadget;
+mod calls;
 mod mode;
 
+pub use alloc::AllocVar;
+pub use allocated::{AllocatedBool, Gate, LooseBit};
 pub use bits::{Boolean, BooleanCall};
 pub use mode::AllocationMode;

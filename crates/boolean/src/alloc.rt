@@ -3,7 +3,7 @@ ghost use Rattle.boolean.specs.declared.mode.AllocationMode.{AllocationMode as M
 ghost use Rattle.relations.specs.Meaning.{Ran, Adds, Leaves};
 ghost use Rattle.relations.specs.Script.{Script, run, whole};
 
-use boolean::AllocationMode;
+use crate::mode::AllocationMode;
 use field::Field;
 use relations::{GadgetFault, System};
 
