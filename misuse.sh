@@ -10,16 +10,29 @@
 #   error: NAME        the compiler's name for the error, as in error[NAME]
 #   says: TEXT         a part of the error's message
 #
-# It runs on copies and changes nothing in the repository. The libraries that the crates depend on must have
-# been proved (target/rlib): .ci/run does so first.
+# It runs on a copy of the crate and of those below it, and changes nothing in the repository. rt proves the
+# crates below first, or takes over what a check on this machine has proved of them.
 set -u
 cd "$(dirname "$0")" || exit 2
-home=$(dirname "$(dirname "$(rt doc)")")
 work=$(mktemp -d) || exit 2
 trap 'rm -rf "$work"' EXIT
 bad=0 tried=0
 
 field() { sed -n "s/^$1: //p" "$2" | head -n 1; }
+
+# Prints the crate NAME and all crates below it.
+with_below() {
+    NAME=$1 awk '
+        { sub(/\r$/, ""); sub(/#.*/, ""); i = index($0, ":"); if (!i) next
+          n = substr($0, 1, i - 1); gsub(/[ \t]/, "", n); below[n] = substr($0, i + 1) }
+        END { todo[count = 1] = ENVIRON["NAME"]
+              for (k = 1; k <= count; k++) {
+                  if (todo[k] in seen || !(todo[k] in below)) continue
+                  seen[todo[k]] = 1; print todo[k]
+                  parts = split(below[todo[k]], part, /[ \t]+/)
+                  for (j = 1; j <= parts; j++) if (part[j] != "") todo[++count] = part[j]
+              } }' crates.txt
+}
 
 for edit in misuse/*.edit; do
     [ -f "$edit" ] || continue
@@ -30,7 +43,15 @@ for edit in misuse/*.edit; do
         echo "$edit: a line is missing (crate, file, old, new, error, says)"; bad=1; continue
     fi
     if [ ! -f "crates/$crate/$file" ]; then echo "$edit: no file crates/$crate/$file"; bad=1; continue; fi
-    rm -rf "${work:?}/$crate"; cp -R "crates/$crate" "$work/$crate"
+    copy=$work/$tried
+    mkdir -p "$copy/crates"
+    for name in $(with_below "$crate"); do
+        grep -E "^$name[ \t]*:" crates.txt >>"$copy/crates.txt"
+        mkdir "$copy/crates/$name"
+        for part in src specs proofs; do
+            [ ! -d "crates/$name/$part" ] || cp -R "crates/$name/$part" "$copy/crates/$name/$part"
+        done
+    done
     OLD=$old NEW=$new awk '
         { text = text $0 "\n" }
         END { old = ENVIRON["OLD"]; at = index(text, old); if (!at) exit 3
@@ -41,24 +62,16 @@ for edit in misuse/*.edit; do
         4) echo "$edit: its old text stands more than once in crates/$crate/$file"; bad=1; continue ;;
         *) echo "$edit: its old text does not stand in crates/$crate/$file"; bad=1; continue ;;
     esac
-    mv "$work/edited" "$work/$crate/$file"
-    root=$work/$crate/src/lib.rt
-    [ -f "$root" ] || root=$work/$crate/src/main.rt
-    set -- --crate-name "$crate" "$root" --extern "std=$home/rlib/std.rlib"
-    lacking=
-    for d in $(sed -n "s/#.*//; s/^${crate}[ \t]*://p" crates.txt); do
-        [ -e "target/rlib/$d.rlib" ] || lacking="$lacking $d"
-        set -- "$@" --extern "$d=target/rlib/$d.rlib"
-    done
-    if [ -n "$lacking" ]; then echo "$edit: not proved yet, so it cannot be tried: run rt check$lacking first"; bad=1; continue; fi
-    "$home/bin/rattle" check "$@" -L dependency=target/rlib -L "dependency=$home/rlib" \
-        --antt-project "$home/logic/antt-project.json" --logic-built "$home/logic-built" >"$work/log" 2>&1
+    mv "$work/edited" "$copy/crates/$crate/$file"
+    (cd "$copy/crates/$crate" && rt check) >"$work/log" 2>&1
     status=$?
-    if [ "$status" -eq 1 ] && grep -qF "error[$error]" "$work/log" && grep -qF -- "$says" "$work/log" &&
+    if [ "$status" -eq 1 ] && grep -F "error[$error]" "$work/log" | grep -qF -- "$says" &&
         [ "$(grep -c ': error' "$work/log")" -eq 1 ]; then
         echo "$edit: refused by the compiler, as it must be ($error)"
     else
-        echo "$edit: NOT REFUSED as it must be (status $status, wanted error[$error] alone)"; head -n 5 "$work/log"; bad=1
+        echo "$edit: NOT REFUSED as it must be (status $status, wanted error[$error] alone)"
+        grep -E ': error|no proof|not proved' "$work/log" | head -n 5
+        bad=1
     fi
 done
 if [ "$tried" -eq 0 ]; then echo "misuse.sh: no misuse/*.edit"; bad=1; fi

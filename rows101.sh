@@ -20,7 +20,9 @@ bytes=$(printf '%s\n' "$*" | awk '
 
 log=$(mktemp) || exit 2
 trap 'rm -f "$log"' EXIT
-(cd "$here" && rt check rows101) >"$log" 2>&1 || { cat "$log" >&2; echo "rows101.sh: rows101 was not built" >&2; exit 1; }
 
 # shellcheck disable=SC2059
-printf "$bytes" | "$here/target/bin/rows101"
+printf "$bytes" | (cd "$here/crates/rows101" && rt run) 2>"$log"
+status=$?
+[ "$status" -eq 0 ] || { cat "$log" >&2; echo "rows101.sh: rows101 was not built, or did not end well" >&2; }
+exit "$status"
