@@ -14,6 +14,8 @@ SIGNATURE = re.compile(r"^\s*(?:abbrev |unfoldable )?(?:pub )?(?:data |record )?
 TOKEN = re.compile(r"(?<![A-Za-z0-9_'◌-])" + NAME + r"(?![A-Za-z0-9_'◌-])")
 # names whose plain respelling would be another name that is in use, or that keep an older word inside
 BY_HAND = {"getD-new": "get_or_new", "getD-old": "get_or_old"}
+# a set of rules and a variable, which no signature shows
+BESIDES = {"reads-32", "pos-r"}
 
 
 def files():
@@ -55,7 +57,7 @@ def collect(texts):
             found = HEAD.match(line)
             if found and re.match(r"\s*(abbrev |unfoldable )?(pub )?(data|record) ", line):
                 defined.add(found.group(1))
-    return {n for n in defined if "-" in n} - made - imported
+    return {n for n in defined if "-" in n} - made - imported | BESIDES
 
 
 def turned(path, text, names):

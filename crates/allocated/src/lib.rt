@@ -1,5 +1,6 @@
-#![tactic(auto)]
 // Bits that are variables of a system: loose, and forced by a row.
+#![tactic(auto)]
+
 mod allocated;
 mod gate;
 

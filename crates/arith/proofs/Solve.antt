@@ -152,7 +152,7 @@ r31 p ρ x0 x1 x2 x3 x4 x5 x6 x7 x8 x9 x10 x11 x12 x13 x14 x15 x16 x17 x18 x19 x
 -- for up to eight numbers in ρ, and up to 32
 pub ruleset reads = (r_two, r_three, r_add, r_mul, r_rem, r_m1, r_modulus, r_lit, r0, r1, r2, r3, r4, r5, r6, r7, r_pow, r_suc)
 
-pub ruleset reads-32 = (reads, r8, r9, r10, r11, r12, r13, r14, r15, r16, r17, r18, r19, r20, r21, r22, r23, r24, r25, r26, r27, r28, r29, r30, r31)
+pub ruleset reads_32 = (reads, r8, r9, r10, r11, r12, r13, r14, r15, r16, r17, r18, r19, r20, r21, r22, r23, r24, r25, r26, r27, r28, r29, r30, r31)
 
 -- hypotheses: `times c h r` takes c times h off, `puts h r` puts h's right side for the variable on its left
 pub data Facts (p : ℕ) (ρ : List ℕ) : Type 0 where

@@ -132,7 +132,7 @@ mul_fits q t1 g = small_fits (pos q *ℤ t1) (omega (arith, abs_mul q t1))
 
 -- the bound of the cofactors after a step
 pub step_small : (p r0 r1 : ℕ) (t0 t1 : ℤ) → 0 < r1 → nat_abs t1 * r0 + nat_abs t0 * r1 ≤ p → nat_abs (t0 -ℤ pos (r0 / r1) *ℤ t1) * r1 + nat_abs t1 * (r0 % r1) ≤ p
-step_small p r0 r1 t0 t1 pos-r h =
+step_small p r0 r1 t0 t1 pos_r h =
     let q = r0 / r1 in
     let le : nat_abs (t0 -ℤ pos (r0 / r1) *ℤ t1) * r1 ≤ (nat_abs t0 + r0 / r1 * nat_abs t1) * r1 =
     mul-le-mul_right r1 (omega (arith, abs_sub t0 (pos (r0 / r1) *ℤ t1), abs_mul (r0 / r1) t1))

@@ -1,5 +1,6 @@
-#![tactic(auto)]
 // A tape's run from nothing, and its text.
+#![tactic(auto)]
+
 ghost use Rattle.std.specs.Prelude.{◌≡◌, string_bytes, MatchResult};
 ghost use Rattle.printing.specs.declared.PrintFault.TheVariants.{Open as unopened, Memory as wanting};
 ghost use Rattle.printing.specs.Printed.{Printed, Refuses};

@@ -1,6 +1,7 @@
-#![tactic(auto)]
 // Prints the text of a table of tapes over small rooms and books: each refusal that a command can meet, on both sides of its limit. What it
 // must print stands in the file stdout.
+#![tactic(auto)]
+
 use field::F101;
 use printing::print;
 use std::io;

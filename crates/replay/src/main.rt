@@ -1,7 +1,8 @@
-#![tactic(auto)]
 // Runs each tape of data/first-bits.txt over the field with 101 elements, as rows101 does, and holds the text to the lines that stand below
 // it. A block of that file is a line `tape` with the bytes in hexadecimal, the expected text, and a line `---`. The blocks were made by a
 // program that computes the text from the rules in docs/TAPE.md and docs/CALLS.md, and shares no code with these crates.
+#![tactic(auto)]
+
 use field::F101;
 use printing::print;
 use std::alloc::{AllocError, Global};

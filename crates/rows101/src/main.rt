@@ -1,5 +1,6 @@
-#![tactic(auto)]
 // Reads a tape from standard input, runs it over the field with 101 elements, and prints the text of the run.
+#![tactic(auto)]
+
 use field::F101;
 use printing::{PrintFault, print};
 use std::io;
