@@ -3,6 +3,8 @@ use Rattle.std.specs.Prelude.{◌≡◌, ℕ, ◌+◌, ◌-◌, ◌*◌, ◌≤�
 use Rattle.relations.specs.declared.term.Variable.{Variable}
 use Rattle.relations.specs.declared.term.Variable.TheVariants.{One, Zero, Input, Witness, Combination}
 use Rattle.relations.specs.declared.term.Term.{Term}
+pub use Rattle.relations.specs.declared.term.Side.{Side}
+pub use Rattle.relations.specs.declared.term.Side.TheVariants.{Input as input, Witness as witness}
 use Rattle.relations.specs.declared.fault.SystemFault.{SystemFault}
 use Rattle.relations.specs.declared.fault.SystemFault.TheVariants.{UnknownVariable, MissingValue, InputsFull, WitnessesFull, TermsFull, RowsFull, QuotaFull, MarkRefused}
 use Rattle.relations.specs.Sum.{Sum, sum_of, Row, row_of}
@@ -89,10 +91,6 @@ abbrev pub ask : Variable → Step (Result (Option ℕ) SystemFault)
 ask v m = (cond (has m v) (Ok (kept m v)) (Err UnknownVariable), m)
 
 -- ---- inputs and witnesses
-pub data Side : Type 0 where
-  input : Side
-  witness : Side
-
 abbrev pub listed : Side → Meaning → List (Option ℕ)
 listed input m = m.inputs
 listed witness m = m.witnesses

@@ -3,7 +3,7 @@ ghost use Rattle.relations.specs.declared.fault.GadgetFault.TheVariants.{System 
 ghost use Rattle.std.specs.Prelude.{◌≡◌};
 
 /// What a constraint system refuses.
-#[derive(Clone, Copy)]
+#[derive(Clone, Copy, PartialEq, Eq)]
 pub enum SystemFault {
     UnknownVariable,
     MissingValue,
@@ -16,7 +16,7 @@ pub enum SystemFault {
 }
 
 /// What a gadget refuses: a fault of the system below it, whole, or one of its own.
-#[derive(Clone, Copy)]
+#[derive(Clone, Copy, PartialEq, Eq)]
 pub enum GadgetFault {
     System(SystemFault),
     TooManyMembers,
@@ -27,7 +27,7 @@ pub enum GadgetFault {
 
 /// A refusal as it is told to the tape's writer: its number, and the layer that it comes from (1 tape, 2 gadget, 3 system,
 /// 4 a layer above a system).
-#[derive(Clone, Copy)]
+#[derive(Clone, Copy, PartialEq, Eq)]
 pub struct Refusal {
     pub number: u32,
     pub layer: u32,
@@ -41,11 +41,11 @@ impl From<SystemFault> for GadgetFault {
     }
 }
 
-impl SystemFault {
-    pub fn refusal(self) -> Refusal
-        ensures { result ≡ of_system self }
-    {
-        let (number, layer) = match self {
+impl From<SystemFault> for Refusal {
+    ghost from_gives = { λ f r. r ≡ of_system f };
+
+    fn from(fault: SystemFault) -> Refusal {
+        let (number, layer) = match fault {
             SystemFault::UnknownVariable => (2, 3),
             SystemFault::MissingValue => (5, 3),
             SystemFault::InputsFull => (8, 3),
@@ -59,12 +59,12 @@ impl SystemFault {
     }
 }
 
-impl GadgetFault {
-    pub fn refusal(self) -> Refusal
-        ensures { result ≡ of_gadget self }
-    {
-        let (number, layer) = match self {
-            GadgetFault::System(fault) => return fault.refusal(),
+impl From<GadgetFault> for Refusal {
+    ghost from_gives = { λ f r. r ≡ of_gadget f };
+
+    fn from(fault: GadgetFault) -> Refusal {
+        let (number, layer) = match fault {
+            GadgetFault::System(fault) => return fault.into(),
             GadgetFault::TooManyMembers => (4, 2),
             GadgetFault::NoValue => (5, 2),
             GadgetFault::Unsatisfiable => (6, 2),

@@ -14,8 +14,6 @@ pub trait Gadget<F: Field, S: System<F>> {
 
     /// The steps, as they come: a refusal leaves what was added before it.
     fn steps(&self, cs: &mut S) -> Result<Self::Out, GadgetFault>
-        requires { S.System.sound cs.old }
-        ensures still { S.System.sound cs.new }
         ensures does { Ran (run F.Field.modulus (model self.now)) (S.System.meaning cs.old) result (S.System.meaning cs.new) }
         ensures adds { Adds (S.System.meaning cs.old) (S.System.stored cs.old) (S.System.meaning cs.new) (S.System.stored cs.new) };
 }
@@ -25,8 +23,6 @@ pub fn call<F: Field, S: System<F>, G: Gadget<F, S>>(
     gadget: &G,
     cs: &mut S,
 ) -> Result<G::Out, GadgetFault>
-    requires { S.System.sound cs.old }
-    ensures still { S.System.sound cs.new }
     ensures does { Ran (whole (run F.Field.modulus (G.Gadget.model gadget.now))) (S.System.meaning cs.old) result (S.System.meaning cs.new) }
     ensures adds { Adds (S.System.meaning cs.old) (S.System.stored cs.old) (S.System.meaning cs.new) (S.System.stored cs.new) }
     ensures leaves { Leaves result (S.System.stored cs.old) (S.System.stored cs.new) }

@@ -9,5 +9,5 @@ mod terms;
 pub use fault::{GadgetFault, Refusal, SystemFault};
 pub use gadget::{Gadget, call};
 pub use system::System;
-pub use term::{Mark, Term, Variable};
+pub use term::{Mark, Side, Term, Variable};
 pub use terms::{just, less, minus_one, one_less, times};

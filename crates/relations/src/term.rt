@@ -9,6 +9,13 @@ pub enum Variable {
     Combination(u32),
 }
 
+/// The side of an assignment on which a new variable stands: the inputs, which everybody knows, or the witnesses.
+#[derive(Clone, Copy, PartialEq, Eq)]
+pub enum Side {
+    Input,
+    Witness,
+}
+
 /// A coefficient, read modulo the field's prime, and the variable that it multiplies.
 #[derive(Clone, Copy)]
 pub struct Term {

@@ -8,7 +8,6 @@ returns-in-Ok g c =
     let m = g.S.System.meaning c.args.cs.now in
     let n = g.S.System.meaning c.keep.new.self in
     record {
-      still = search rules;
       does = ap (λ x. restored m x.0 x.1) c.in-Ok.ensures.does ∙ ap (λ x. (Ok c.in-Ok.answer, x)) (sym c.keep.ensures.does);
       adds = λ l u h. same_begins _ _ l _ _ u c.keep.ensures.does c.keep.ensures.leaves (c.in-Ok.ensures.adds l u h);
       leaves = tt;
@@ -31,7 +30,6 @@ returns-in-Ok-rewind g c =
     let re = c.in-Ok-rewind.ensures.does in
     let same = words_back p s m n o c.in-Err.fault (Ok tt) k.inputs k.witnesses k.combinations k.rows t (g.S.System.stored c.steps.new.cs) (g.S.System.stored c.rewind.new.self) start.sane at ran re begun c.in-Ok-rewind.ensures.cuts in
     record {
-      still = search rules;
       does = undone p s m n o c.in-Err.fault (Ok tt) k.inputs k.witnesses k.combinations k.rows start.sane at ran re;
       adds = λ l u h. same_begins m o l t (g.S.System.stored c.rewind.new.self) u (system_back p s m n o c.in-Err.fault (Ok tt) k.inputs k.witnesses k.combinations k.rows start.sane at ran re) same h;
       leaves = same;
