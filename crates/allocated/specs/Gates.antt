@@ -1,7 +1,8 @@
 -- Bits that are variables, and what a gate on two of them asks of a system.
 use Rattle.std.specs.Prelude.{ℕ, ◌-◌, Bool, true, false, not, ◌&&◌, List, [], ◌∷◌, Some, None, Option, ◌==◌}
 use Rattle.relations.specs.declared.term.Variable.{Variable}
-use Rattle.relations.specs.Meaning.{Side, witness}
+use Rattle.relations.specs.declared.term.Side.{Side}
+use Rattle.relations.specs.declared.term.Side.TheVariants.{Witness as witness}
 use Rattle.relations.specs.Script.{Script, answer, allocate, combine, row}
 use Rattle.relations.specs.Terms.{times, just, one_less}
 use Rattle.allocated.specs.declared.gate.Gate.{Gate}

@@ -1,6 +1,7 @@
 ghost use Rattle.std.specs.Prelude.{◌≡◌, ℕ, List, [], ◌∷◌};
 ghost use Rattle.std.specs.Option.{option_map};
-ghost use Rattle.relations.specs.Meaning.{Ran, Adds, Leaves, ask, input, witness};
+ghost use Rattle.relations.specs.Meaning.{Ran, Adds, Leaves, ask};
+ghost use Rattle.relations.specs.declared.term.Side.TheVariants.{Witness as witness};
 ghost use Rattle.relations.specs.Script.{Script, run, row, answer};
 ghost use Rattle.relations.specs.Told.{told};
 ghost use Rattle.allocated.specs.Gates.{bit, truth, gated, applied, bit_number, allocated, loose_script, booleanity, new_bit, gate_script, not_allocated};
@@ -8,7 +9,7 @@ ghost use Rattle.allocated.specs.Gates.{bit, truth, gated, applied, bit_number, 
 use crate::gate::Gate;
 use field::Field;
 use relations::{
-    GadgetFault, System, SystemFault, Term, Variable, just, minus_one, one_less, times,
+    GadgetFault, Side, System, SystemFault, Term, Variable, just, minus_one, one_less, times,
 };
 
 /// A bit that no row forces yet. It can be neither copied nor let go nor made by hand: it becomes a bit of a circuit by being
@@ -46,22 +47,14 @@ fn element<F: Field>(b: bool) -> F
 fn bit_value<F: Field>(value: Option<bool>) -> Option<F>
     ensures { option_map F.Field.number result ≡ bit_number value }
 {
-    match value {
-        None => None,
-        Some(b) => Some(element(b)),
-    }
+    Some(element(value?))
 }
 
 fn gate_value<F: Field>(gate: Gate, x: Option<F>, y: Option<F>) -> Option<F>
     ensures { option_map F.Field.number result ≡ gated gate (option_map F.Field.number x) (option_map F.Field.number y) }
 {
-    match x {
-        None => None,
-        Some(a) => match y {
-            None => None,
-            Some(b) => Some(element(gate.apply(!a.is_zero(), !b.is_zero()))),
-        },
-    }
+    let (a, b) = (x?, y?);
+    Some(element(gate.apply(!a.is_zero(), !b.is_zero())))
 }
 
 impl LooseBit {
@@ -70,18 +63,15 @@ impl LooseBit {
         cs: &mut S,
         value: Option<bool>,
     ) -> Result<LooseBit, GadgetFault>
-        requires { S.System.sound cs.old }
-        ensures still { S.System.sound cs.new }
         ensures does { Ran (run F.Field.modulus (loose_script witness value)) (S.System.meaning cs.old) result (S.System.meaning cs.new) }
         ensures adds { Adds (S.System.meaning cs.old) (S.System.stored cs.old) (S.System.meaning cs.new) (S.System.stored cs.new) }
     {
-        let variable = cs.new_witness(bit_value(value))?;
+        let variable = cs.new_variable(Side::Witness, bit_value(value))?;
         Ok(LooseBit { variable })
     }
 
     /// The value of the bit, which is handed in and given back.
     pub fn value<F: Field, S: System<F>>(self, cs: &S) -> (LooseBit, Result<Option<F>, SystemFault>)
-        requires { S.System.sound cs.now }
         ensures same { result.0 ≡ self }
         ensures asks { told F.Field.number result.1 ≡ (ask self.variable (S.System.meaning cs.now)).0 }
     {
@@ -98,8 +88,6 @@ impl LooseBit {
         b: &[Term],
         c: &[Term],
     ) -> Result<AllocatedBool, GadgetFault>
-        requires { S.System.sound cs.old }
-        ensures still { S.System.sound cs.new }
         ensures does { Ran (run F.Field.modulus (row a.now b.now c.now (answer (allocated self.variable)))) (S.System.meaning cs.old) result (S.System.meaning cs.new) }
         ensures adds { Adds (S.System.meaning cs.old) (S.System.stored cs.old) (S.System.meaning cs.new) (S.System.stored cs.new) }
     {
@@ -113,8 +101,6 @@ impl LooseBit {
         self,
         cs: &mut S,
     ) -> Result<AllocatedBool, GadgetFault>
-        requires { S.System.sound cs.old }
-        ensures still { S.System.sound cs.new }
         ensures does { Ran (run F.Field.modulus (booleanity F.Field.modulus self.variable)) (S.System.meaning cs.old) result (S.System.meaning cs.new) }
         ensures adds { Adds (S.System.meaning cs.old) (S.System.stored cs.old) (S.System.meaning cs.new) (S.System.stored cs.new) }
     {
@@ -132,38 +118,21 @@ impl AllocatedBool {
         variable
     }
 
-    /// A new input with the row that forces it.
-    pub fn input_steps<F: Field, S: System<F>>(
+    /// A new input or witness with the row that forces it.
+    pub fn variable_steps<F: Field, S: System<F>>(
         cs: &mut S,
+        side: Side,
         value: Option<bool>,
     ) -> Result<AllocatedBool, GadgetFault>
-        requires { S.System.sound cs.old }
-        ensures still { S.System.sound cs.new }
-        ensures does { Ran (run F.Field.modulus (new_bit F.Field.modulus input value)) (S.System.meaning cs.old) result (S.System.meaning cs.new) }
+        ensures does { Ran (run F.Field.modulus (new_bit F.Field.modulus side value)) (S.System.meaning cs.old) result (S.System.meaning cs.new) }
         ensures adds { Adds (S.System.meaning cs.old) (S.System.stored cs.old) (S.System.meaning cs.new) (S.System.stored cs.new) }
     {
-        let variable = cs.new_input(bit_value(value))?;
+        let variable = cs.new_variable(side, bit_value(value))?;
         LooseBit { variable }.enforce_boolean(cs)
-    }
-
-    /// A new witness with the row that forces it.
-    pub fn witness_steps<F: Field, S: System<F>>(
-        cs: &mut S,
-        value: Option<bool>,
-    ) -> Result<AllocatedBool, GadgetFault>
-        requires { S.System.sound cs.old }
-        ensures still { S.System.sound cs.new }
-        ensures does { Ran (run F.Field.modulus (new_bit F.Field.modulus witness value)) (S.System.meaning cs.old) result (S.System.meaning cs.new) }
-        ensures adds { Adds (S.System.meaning cs.old) (S.System.stored cs.old) (S.System.meaning cs.new) (S.System.stored cs.new) }
-    {
-        let w = cs.new_witness(bit_value(value))?;
-        LooseBit { variable: w }.enforce_boolean(cs)
     }
 
     /// One less the bit.
     pub fn not_steps<F: Field, S: System<F>>(self, cs: &mut S) -> Result<AllocatedBool, GadgetFault>
-        requires { S.System.sound cs.old }
-        ensures still { S.System.sound cs.new }
         ensures does { Ran (run F.Field.modulus (not_allocated F.Field.modulus self)) (S.System.meaning cs.old) result (S.System.meaning cs.new) }
         ensures adds { Adds (S.System.meaning cs.old) (S.System.stored cs.old) (S.System.meaning cs.new) (S.System.stored cs.new) }
     {
@@ -178,15 +147,13 @@ impl AllocatedBool {
         other: AllocatedBool,
         cs: &mut S,
     ) -> Result<AllocatedBool, GadgetFault>
-        requires { S.System.sound cs.old }
-        ensures still { S.System.sound cs.new }
         ensures does { Ran (run F.Field.modulus (gate_script gate F.Field.modulus self other)) (S.System.meaning cs.old) result (S.System.meaning cs.new) }
         ensures adds { Adds (S.System.meaning cs.old) (S.System.stored cs.old) (S.System.meaning cs.new) (S.System.stored cs.new) }
     {
         let (a, b) = (self.variable, other.variable);
         let x = cs.value(a)?;
         let y = cs.value(b)?;
-        let w = cs.new_witness(gate_value(gate, x, y))?;
+        let w = cs.new_variable(Side::Witness, gate_value(gate, x, y))?;
         let output = LooseBit { variable: w };
         match gate {
             Gate::And => output.forced(cs, &just(a), &just(b), &just(w)),

@@ -1,8 +1,9 @@
 -- Booleans, constants folded, and what the calls on them ask of a system.
 use Rattle.std.specs.Prelude.{ℕ, Bool, true, false, not, Some, None, Option}
 use Rattle.relations.specs.declared.fault.GadgetFault.TheVariants.{NoValue}
-use Rattle.relations.specs.Meaning.{input, witness}
+use Rattle.relations.specs.declared.term.Side.TheVariants.{Input as input, Witness as witness}
 use Rattle.relations.specs.Script.{Script, answer, refuse, then}
+use Rattle.allocated.specs.declared.gate.Gate.{Gate}
 use Rattle.allocated.specs.declared.gate.Gate.TheVariants.{And, Or, Xor}
 use Rattle.allocated.specs.declared.allocated.AllocatedBool.{AllocatedBool}
 use Rattle.allocated.specs.Gates.{new_bit, gate_script, not_allocated}
@@ -48,10 +49,23 @@ xor_script p (Var a) (Constant true) = not_script p (Var a)
 xor_script p (Var a) (Constant false) = answer (Var a)
 xor_script p (Var a) (Var b) = as_var (gate_script Xor p a b)
 
+-- a gate on two bits
+abbrev pub gated_script : Gate → ℕ → Boolean → Boolean → Script Boolean
+gated_script And = and_script
+gated_script Or = or_script
+gated_script Xor = xor_script
+
+-- a gate on a constant and a bit
+abbrev pub folded_script : Gate → ℕ → Bool → Boolean → Script Boolean
+folded_script And p true b = answer b
+folded_script And p false b = answer (Constant false)
+folded_script Or p true b = answer (Constant true)
+folded_script Or p false b = answer b
+folded_script Xor p true b = not_script p b
+folded_script Xor p false b = answer b
+
 -- ---- the calls on bits that a circuit's author makes
 abbrev pub call_script : ℕ → BooleanCall → Script Boolean
 call_script p (Allocate mode value) = alloc_script p mode value
 call_script p (Not a) = not_script p a
-call_script p (Gated And a b) = and_script p a b
-call_script p (Gated Or a b) = or_script p a b
-call_script p (Gated Xor a b) = xor_script p a b
+call_script p (Gated g a b) = gated_script g p a b

@@ -13,8 +13,6 @@ pub trait AllocVar<V, F: Field, S: System<F>>: Sized {
     ghost allocation: { ℕ → Mode → Maybe V → Script Self };
 
     fn new_variable(cs: &mut S, value: Option<V>, mode: AllocationMode) -> Result<Self, GadgetFault>
-        requires { S.System.sound cs.old }
-        ensures still { S.System.sound cs.new }
         ensures does { Ran (whole (run F.Field.modulus (allocation F.Field.modulus mode value))) (S.System.meaning cs.old) result (S.System.meaning cs.new) }
         ensures adds { Adds (S.System.meaning cs.old) (S.System.stored cs.old) (S.System.meaning cs.new) (S.System.stored cs.new) }
         ensures leaves { Leaves result (S.System.stored cs.old) (S.System.stored cs.new) };

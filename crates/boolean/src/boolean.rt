@@ -1,24 +1,13 @@
 ghost use Rattle.std.specs.Prelude.{◌≡◌, ℕ};
 ghost use Rattle.relations.specs.Meaning.{Ran, Adds};
-ghost use Rattle.relations.specs.Script.{Script, run, over};
-ghost use Rattle.boolean.specs.declared.bits.Boolean.TheVariants.{Var as in_var};
-ghost use Rattle.boolean.specs.Booleans.{alloc_script, not_script, and_script, or_script, xor_script};
+ghost use Rattle.relations.specs.Script.{Script, run};
+ghost use Rattle.boolean.specs.Booleans.{alloc_script, not_script, gated_script, folded_script};
 
 use crate::bits::Boolean;
 use crate::mode::AllocationMode;
 use allocated::{AllocatedBool, Gate};
 use field::Field;
-use relations::{GadgetFault, System};
-
-/// A variable bit as a Boolean.
-fn as_var(bit: Result<AllocatedBool, GadgetFault>) -> Result<Boolean, GadgetFault>
-    ensures { result ≡ over in_var bit }
-{
-    match bit {
-        Ok(a) => Ok(Boolean::Var(a)),
-        Err(fault) => Err(fault),
-    }
-}
+use relations::{GadgetFault, Side, System};
 
 impl Boolean {
     /// The steps of an allocation: a constant asks nothing of the system.
@@ -27,91 +16,61 @@ impl Boolean {
         value: Option<bool>,
         mode: AllocationMode,
     ) -> Result<Boolean, GadgetFault>
-        requires { S.System.sound cs.old }
-        ensures still { S.System.sound cs.new }
         ensures does { Ran (run F.Field.modulus (alloc_script F.Field.modulus mode value)) (S.System.meaning cs.old) result (S.System.meaning cs.new) }
         ensures adds { Adds (S.System.meaning cs.old) (S.System.stored cs.old) (S.System.meaning cs.new) (S.System.stored cs.new) }
     {
-        match mode {
-            AllocationMode::Constant => match value {
-                None => Err(GadgetFault::NoValue),
-                Some(b) => Ok(Boolean::Constant(b)),
-            },
-            AllocationMode::Input => as_var(AllocatedBool::input_steps(cs, value)),
-            AllocationMode::Witness => as_var(AllocatedBool::witness_steps(cs, value)),
-        }
+        let side = match mode {
+            AllocationMode::Constant => return value
+                .map(Boolean::Constant)
+                .ok_or(GadgetFault::NoValue),
+            AllocationMode::Input => Side::Input,
+            AllocationMode::Witness => Side::Witness,
+        };
+        AllocatedBool::variable_steps(cs, side, value).map(Boolean::Var)
     }
 
     /// The steps of `not`.
     pub fn not_steps<F: Field, S: System<F>>(self, cs: &mut S) -> Result<Boolean, GadgetFault>
-        requires { S.System.sound cs.old }
-        ensures still { S.System.sound cs.new }
         ensures does { Ran (run F.Field.modulus (not_script F.Field.modulus self)) (S.System.meaning cs.old) result (S.System.meaning cs.new) }
         ensures adds { Adds (S.System.meaning cs.old) (S.System.stored cs.old) (S.System.meaning cs.new) (S.System.stored cs.new) }
     {
         match self {
             Boolean::Constant(b) => Ok(Boolean::Constant(!b)),
-            Boolean::Var(a) => as_var(a.not_steps(cs)),
+            Boolean::Var(a) => a.not_steps(cs).map(Boolean::Var),
         }
     }
 
-    /// The steps of `and`: constants fold.
-    pub fn and_steps<F: Field, S: System<F>>(
+    /// The steps of a gate on a bit and a constant: none but, where the gate turns the bit over, those of `not`.
+    fn folded<F: Field, S: System<F>>(
         self,
-        other: Boolean,
+        gate: Gate,
+        constant: bool,
         cs: &mut S,
     ) -> Result<Boolean, GadgetFault>
-        requires { S.System.sound cs.old }
-        ensures still { S.System.sound cs.new }
-        ensures does { Ran (run F.Field.modulus (and_script F.Field.modulus self other)) (S.System.meaning cs.old) result (S.System.meaning cs.new) }
+        ensures does { Ran (run F.Field.modulus (folded_script gate F.Field.modulus constant self)) (S.System.meaning cs.old) result (S.System.meaning cs.new) }
         ensures adds { Adds (S.System.meaning cs.old) (S.System.stored cs.old) (S.System.meaning cs.new) (S.System.stored cs.new) }
     {
-        match (self, other) {
-            (Boolean::Constant(true), _) => Ok(other),
-            (Boolean::Constant(false), _) => Ok(Boolean::Constant(false)),
-            (Boolean::Var(_), Boolean::Constant(true)) => Ok(self),
-            (Boolean::Var(_), Boolean::Constant(false)) => Ok(Boolean::Constant(false)),
-            (Boolean::Var(a), Boolean::Var(b)) => as_var(a.gate_steps(Gate::And, b, cs)),
+        match (gate, constant) {
+            (Gate::And, true) | (Gate::Or, false) | (Gate::Xor, false) => Ok(self),
+            (Gate::And, false) | (Gate::Or, true) => Ok(Boolean::Constant(constant)),
+            (Gate::Xor, true) => self.not_steps(cs),
         }
     }
 
-    /// The steps of `or`: constants fold.
-    pub fn or_steps<F: Field, S: System<F>>(
+    /// The steps of a gate: constants fold.
+    pub fn gate_steps<F: Field, S: System<F>>(
         self,
+        gate: Gate,
         other: Boolean,
         cs: &mut S,
     ) -> Result<Boolean, GadgetFault>
-        requires { S.System.sound cs.old }
-        ensures still { S.System.sound cs.new }
-        ensures does { Ran (run F.Field.modulus (or_script F.Field.modulus self other)) (S.System.meaning cs.old) result (S.System.meaning cs.new) }
+        ensures does { Ran (run F.Field.modulus (gated_script gate F.Field.modulus self other)) (S.System.meaning cs.old) result (S.System.meaning cs.new) }
         ensures adds { Adds (S.System.meaning cs.old) (S.System.stored cs.old) (S.System.meaning cs.new) (S.System.stored cs.new) }
     {
         match (self, other) {
-            (Boolean::Constant(false), _) => Ok(other),
-            (Boolean::Constant(true), _) => Ok(Boolean::Constant(true)),
-            (Boolean::Var(_), Boolean::Constant(false)) => Ok(self),
-            (Boolean::Var(_), Boolean::Constant(true)) => Ok(Boolean::Constant(true)),
-            (Boolean::Var(a), Boolean::Var(b)) => as_var(a.gate_steps(Gate::Or, b, cs)),
-        }
-    }
-
-    /// The steps of `xor`: constants fold, and one beside a variable is its `not`.
-    pub fn xor_steps<F: Field, S: System<F>>(
-        self,
-        other: Boolean,
-        cs: &mut S,
-    ) -> Result<Boolean, GadgetFault>
-        requires { S.System.sound cs.old }
-        ensures still { S.System.sound cs.new }
-        ensures does { Ran (run F.Field.modulus (xor_script F.Field.modulus self other)) (S.System.meaning cs.old) result (S.System.meaning cs.new) }
-        ensures adds { Adds (S.System.meaning cs.old) (S.System.stored cs.old) (S.System.meaning cs.new) (S.System.stored cs.new) }
-    {
-        match (self, other) {
-            (Boolean::Constant(false), _) => Ok(other),
-            (Boolean::Constant(true), _) => other.not_steps(cs),
-            (Boolean::Var(_), Boolean::Constant(false)) => Ok(self),
-            (Boolean::Var(_), Boolean::Constant(true)) => self.not_steps(cs),
-            (Boolean::Var(a), Boolean::Var(b)) => as_var(a.gate_steps(Gate::Xor, b, cs)),
+            (Boolean::Constant(a), _) => other.folded(gate, a, cs),
+            (Boolean::Var(_), Boolean::Constant(b)) => self.folded(gate, b, cs),
+            (Boolean::Var(a), Boolean::Var(b)) => a.gate_steps(gate, b, cs).map(Boolean::Var),
         }
     }
 }

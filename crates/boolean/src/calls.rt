@@ -19,9 +19,7 @@ impl<F: Field, S: System<F>> Gadget<F, S> for BooleanCall {
         match *self {
             BooleanCall::Allocate(mode, value) => Boolean::alloc_steps(cs, value, mode),
             BooleanCall::Not(a) => a.not_steps(cs),
-            BooleanCall::Gated(Gate::And, a, b) => a.and_steps(b, cs),
-            BooleanCall::Gated(Gate::Or, a, b) => a.or_steps(b, cs),
-            BooleanCall::Gated(Gate::Xor, a, b) => a.xor_steps(b, cs),
+            BooleanCall::Gated(gate, a, b) => a.gate_steps(gate, b, cs),
         }
     }
 }
@@ -34,8 +32,6 @@ impl<F: Field, S: System<F>> AllocVar<bool, F, S> for Boolean {
         value: Option<bool>,
         mode: AllocationMode,
     ) -> Result<Boolean, GadgetFault>
-        requires { S.System.sound cs.old }
-        ensures still { S.System.sound cs.new }
         ensures does { Ran (whole (run F.Field.modulus (alloc_script F.Field.modulus mode value))) (S.System.meaning cs.old) result (S.System.meaning cs.new) }
         ensures adds { Adds (S.System.meaning cs.old) (S.System.stored cs.old) (S.System.meaning cs.new) (S.System.stored cs.new) }
         ensures leaves { Leaves result (S.System.stored cs.old) (S.System.stored cs.new) }
@@ -47,8 +43,6 @@ impl<F: Field, S: System<F>> AllocVar<bool, F, S> for Boolean {
 impl Boolean {
     /// One less the bit; a refusal leaves the system as it was.
     pub fn not<F: Field, S: System<F>>(self, cs: &mut S) -> Result<Boolean, GadgetFault>
-        requires { S.System.sound cs.old }
-        ensures still { S.System.sound cs.new }
         ensures does { Ran (whole (run F.Field.modulus (not_script F.Field.modulus self))) (S.System.meaning cs.old) result (S.System.meaning cs.new) }
         ensures adds { Adds (S.System.meaning cs.old) (S.System.stored cs.old) (S.System.meaning cs.new) (S.System.stored cs.new) }
         ensures leaves { Leaves result (S.System.stored cs.old) (S.System.stored cs.new) }
@@ -62,8 +56,6 @@ impl Boolean {
         other: Boolean,
         cs: &mut S,
     ) -> Result<Boolean, GadgetFault>
-        requires { S.System.sound cs.old }
-        ensures still { S.System.sound cs.new }
         ensures does { Ran (whole (run F.Field.modulus (and_script F.Field.modulus self other))) (S.System.meaning cs.old) result (S.System.meaning cs.new) }
         ensures adds { Adds (S.System.meaning cs.old) (S.System.stored cs.old) (S.System.meaning cs.new) (S.System.stored cs.new) }
         ensures leaves { Leaves result (S.System.stored cs.old) (S.System.stored cs.new) }
@@ -77,8 +69,6 @@ impl Boolean {
         other: Boolean,
         cs: &mut S,
     ) -> Result<Boolean, GadgetFault>
-        requires { S.System.sound cs.old }
-        ensures still { S.System.sound cs.new }
         ensures does { Ran (whole (run F.Field.modulus (or_script F.Field.modulus self other))) (S.System.meaning cs.old) result (S.System.meaning cs.new) }
         ensures adds { Adds (S.System.meaning cs.old) (S.System.stored cs.old) (S.System.meaning cs.new) (S.System.stored cs.new) }
         ensures leaves { Leaves result (S.System.stored cs.old) (S.System.stored cs.new) }
@@ -92,8 +82,6 @@ impl Boolean {
         other: Boolean,
         cs: &mut S,
     ) -> Result<Boolean, GadgetFault>
-        requires { S.System.sound cs.old }
-        ensures still { S.System.sound cs.new }
         ensures does { Ran (whole (run F.Field.modulus (xor_script F.Field.modulus self other))) (S.System.meaning cs.old) result (S.System.meaning cs.new) }
         ensures adds { Adds (S.System.meaning cs.old) (S.System.stored cs.old) (S.System.meaning cs.new) (S.System.stored cs.new) }
         ensures leaves { Leaves result (S.System.stored cs.old) (S.System.stored cs.new) }

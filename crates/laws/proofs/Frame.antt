@@ -5,7 +5,8 @@ use Rattle.relations.specs.declared.term.Variable.TheVariants.{One, Zero}
 use Rattle.relations.specs.declared.term.Term.{Term}
 use Rattle.relations.specs.declared.fault.SystemFault.{SystemFault}
 use Rattle.relations.specs.declared.fault.GadgetFault.{GadgetFault}
-use Rattle.relations.specs.Meaning.{Meaning, Side, ask, new_variable, new_lc, enforce}
+use Rattle.relations.specs.Meaning.{Meaning, ask, new_variable, new_lc, enforce}
+use Rattle.relations.specs.declared.term.Side.{Side}
 use Rattle.relations.specs.Script.{Script, answer, refuse, allocate, combine, row, then, next, asking, run}
 pub use Rattle.laws.specs.Law.{lists}
 use Rattle.laws.specs.Law.{Val, total, Low, Must, Fits, Plan, Plays, Goes, RowMet, Forces, Reaches, Computes, Law, There, Constants, Wider, AllThere, TermsThere, Names, Sees, Tidy, Steady}

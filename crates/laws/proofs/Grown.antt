@@ -4,7 +4,9 @@ use Rattle.relations.specs.declared.term.Variable.{Variable}
 use Rattle.relations.specs.declared.term.Variable.TheVariants.{Input, Witness, Combination}
 use Rattle.relations.specs.declared.term.Term.{Term}
 use Rattle.relations.specs.Sum.{Row, sum_of, row_of}
-use Rattle.relations.specs.Meaning.{Meaning, Combo, Side, input, witness, places, has, next_of, with_new, with_combo, combo_of, with_row}
+use Rattle.relations.specs.Meaning.{Meaning, Combo, places, has, next_of, with_new, with_combo, combo_of, with_row}
+use Rattle.relations.specs.declared.term.Side.{Side}
+use Rattle.relations.specs.declared.term.Side.TheVariants.{Input as input, Witness as witness}
 use Rattle.relations.specs.Script.{Script, answer, refuse, allocate, combine, row, run}
 use Rattle.laws.specs.Law.{There, TermsThere, Names}
 use Rattle.laws.specs.Runs.{Bounded, Proper}

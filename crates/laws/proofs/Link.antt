@@ -6,7 +6,9 @@ use Rattle.relations.specs.declared.term.Variable.{Variable}
 use Rattle.relations.specs.declared.term.Variable.TheVariants.{One, Zero, Input, Witness, Combination}
 use Rattle.relations.specs.declared.term.Term.{Term}
 use Rattle.relations.specs.Sum.{Sum, Row, code, decode, counted, sum_of, row_of}
-use Rattle.relations.specs.Meaning.{Meaning, Combo, Side, input, witness, places, is_head, known, has, next_of, with_new, with_combo, combo_of, with_row}
+use Rattle.relations.specs.Meaning.{Meaning, Combo, places, is_head, known, has, next_of, with_new, with_combo, combo_of, with_row}
+use Rattle.relations.specs.declared.term.Side.{Side}
+use Rattle.relations.specs.declared.term.Side.TheVariants.{Input as input, Witness as witness}
 use Rattle.relations.specs.Script.{Script, answer, refuse, allocate, combine, row, run}
 use Rattle.relations.specs.Meaning.{Grows}
 use Rattle.relations.proofs.Growth.{growing_run}

@@ -8,7 +8,9 @@ use Rattle.relations.specs.declared.fault.SystemFault.TheVariants.{UnknownVariab
 use Rattle.relations.specs.declared.fault.GadgetFault.{GadgetFault}
 use Rattle.relations.specs.declared.fault.GadgetFault.TheVariants.{System}
 use Rattle.relations.specs.Sum.{Row, sum_of, row_of}
-use Rattle.relations.specs.Meaning.{Meaning, Combo, Step, Side, input, witness, has, has_all, has_row, known, all_known, assigned, kept, next_of, full, with_new, keeping, new_variable, places, used, row_use, rows_use, with_combo, combo_of, new_lc, with_row, rows_full, enforce}
+use Rattle.relations.specs.Meaning.{Meaning, Combo, Step, has, has_all, has_row, known, all_known, assigned, kept, next_of, full, with_new, keeping, new_variable, places, used, row_use, rows_use, with_combo, combo_of, new_lc, with_row, rows_full, enforce}
+use Rattle.relations.specs.declared.term.Side.{Side}
+use Rattle.relations.specs.declared.term.Side.TheVariants.{Input as input, Witness as witness}
 use Rattle.relations.specs.Script.{Script, answer, refuse, allocate, combine, row, then, next, asking, run, restored, whole}
 use Rattle.laws.specs.Law.{There, AllThere, TermsThere, Sees, Steady, present}
 use Rattle.laws.specs.Bill.{Charge, takes_variable, takes_combination, takes_row, stops, Next, names, named, past, past_terms, charges, ends, Rooms, rooms, Account, account, space, spent, with_variable, with_terms, lacks, pay, follow, settle, settled, billed, nothing_used, plus, cost, tally, Within, Clean, Settled}

@@ -8,7 +8,8 @@ use Rattle.relations.specs.declared.fault.SystemFault.{SystemFault}
 use Rattle.relations.specs.declared.fault.SystemFault.TheVariants.{UnknownVariable, TermsFull}
 use Rattle.relations.specs.declared.fault.GadgetFault.{GadgetFault}
 use Rattle.relations.specs.Sum.{sum_of, row_of}
-use Rattle.relations.specs.Meaning.{Meaning, Combo, Step, Side, has, has_all, has_row, known, all_known, kept, listed, room, next_of, full, with_new, keeping, places, used, row_use, with_combo, combo_of, new_lc, with_row, rows_full, enforce}
+use Rattle.relations.specs.Meaning.{Meaning, Combo, Step, has, has_all, has_row, known, all_known, kept, listed, room, next_of, full, with_new, keeping, places, used, row_use, with_combo, combo_of, new_lc, with_row, rows_full, enforce}
+use Rattle.relations.specs.declared.term.Side.{Side}
 use Rattle.relations.specs.Script.{next, asking}
 use Rattle.laws.specs.Law.{AllThere, TermsThere}
 

@@ -6,7 +6,9 @@ use Rattle.relations.specs.declared.fault.SystemFault.TheVariants.{MissingValue,
 use Rattle.relations.specs.declared.fault.GadgetFault.{GadgetFault}
 use Rattle.relations.specs.declared.fault.GadgetFault.TheVariants.{System}
 use Rattle.relations.specs.Sum.{sum_of, row_of}
-use Rattle.relations.specs.Meaning.{Meaning, Side, input, witness, full, places, row_use, used, rows_full}
+use Rattle.relations.specs.Meaning.{Meaning, full, places, row_use, used, rows_full}
+use Rattle.relations.specs.declared.term.Side.{Side}
+use Rattle.relations.specs.declared.term.Side.TheVariants.{Input as input, Witness as witness}
 use Rattle.relations.specs.Script.{Script, answer, refuse, allocate, combine, row}
 use Rattle.laws.specs.Law.{present}
 

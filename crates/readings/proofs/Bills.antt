@@ -4,7 +4,8 @@ use borrow.Author.Tests.{true-ltb}
 use Rattle.relations.specs.declared.term.Variable.{Variable}
 use Rattle.relations.specs.declared.term.Variable.TheVariants.{One, Zero, Input, Witness, Combination}
 use Rattle.relations.specs.Sum.{code, counted, Pairs, merged, sum_of}
-use Rattle.relations.specs.Meaning.{Meaning, input, witness, has}
+use Rattle.relations.specs.Meaning.{Meaning, has}
+use Rattle.relations.specs.declared.term.Side.TheVariants.{Input as input, Witness as witness}
 use Rattle.relations.specs.Script.{Script, answer, then}
 use Rattle.relations.specs.Terms.{times, one_less}
 use Rattle.boolean.specs.declared.mode.AllocationMode.{AllocationMode}

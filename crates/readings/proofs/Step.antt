@@ -9,7 +9,9 @@ use Rattle.relations.specs.declared.term.Variable.{Variable}
 use Rattle.relations.specs.declared.term.Variable.TheVariants.{Combination}
 use Rattle.relations.specs.declared.fault.GadgetFault.{GadgetFault}
 use Rattle.relations.specs.declared.fault.GadgetFault.TheVariants.{NoValue}
-use Rattle.relations.specs.Meaning.{Meaning, Fresh, Grows, Side, input, witness, has, assigned, next_of, with_new, number}
+use Rattle.relations.specs.Meaning.{Meaning, Fresh, Grows, has, assigned, next_of, with_new, number}
+use Rattle.relations.specs.declared.term.Side.{Side}
+use Rattle.relations.specs.declared.term.Side.TheVariants.{Input as input, Witness as witness}
 use Rattle.relations.specs.Sum.{row_of, sum_of}
 use Rattle.relations.specs.Terms.{just, one_less}
 use Rattle.relations.specs.Script.{Script, answer, refuse, allocate, combine, row, then, run, restored, over}

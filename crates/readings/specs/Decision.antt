@@ -5,7 +5,8 @@ use Rattle.relations.specs.declared.term.Variable.TheVariants.{One, Zero, Input,
 use Rattle.relations.specs.declared.fault.GadgetFault.{GadgetFault}
 use Rattle.relations.specs.declared.fault.GadgetFault.TheVariants.{NoValue}
 use Rattle.relations.specs.Sum.{code}
-use Rattle.relations.specs.Meaning.{Meaning, input, witness}
+use Rattle.relations.specs.Meaning.{Meaning}
+use Rattle.relations.specs.declared.term.Side.TheVariants.{Input as input, Witness as witness}
 use Rattle.boolean.specs.declared.mode.AllocationMode.{AllocationMode}
 use Rattle.boolean.specs.declared.mode.AllocationMode.TheVariants.{Constant as as_constant, Input as as_input, Witness as as_witness}
 use Rattle.allocated.specs.declared.gate.Gate.{Gate}

@@ -7,7 +7,9 @@ use Rattle.relations.specs.declared.fault.SystemFault.{SystemFault}
 use Rattle.relations.specs.declared.fault.SystemFault.TheVariants.{UnknownVariable, TermsFull}
 use Rattle.relations.specs.declared.fault.GadgetFault.{GadgetFault}
 use Rattle.relations.specs.Sum.{Row, row_of, sum_of}
-use Rattle.relations.specs.Meaning.{Meaning, Combo, Step, Side, input, witness, ask, new_variable, keeping, with_new, full, listed, room, new_lc, with_combo, combo_of, enforce, with_row, rows_full, has_all, has_row, used, row_use, places, Grows}
+use Rattle.relations.specs.Meaning.{Meaning, Combo, Step, ask, new_variable, keeping, with_new, full, listed, room, new_lc, with_combo, combo_of, enforce, with_row, rows_full, has_all, has_row, used, row_use, places, Grows}
+use Rattle.relations.specs.declared.term.Side.{Side}
+use Rattle.relations.specs.declared.term.Side.TheVariants.{Input as input, Witness as witness}
 use Rattle.relations.specs.Script.{Script, answer, refuse, allocate, combine, row, next, asking, run}
 
 pub grows_refl : (m : Meaning) → Grows m m

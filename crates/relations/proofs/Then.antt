@@ -3,7 +3,8 @@ use Rattle.std.proofs.Common.{◌≡◌, ℕ, List, [], ◌∷◌, Ok, Err, Opti
 use Rattle.relations.specs.declared.term.Variable.{Variable}
 use Rattle.relations.specs.declared.fault.SystemFault.{SystemFault}
 use Rattle.relations.specs.declared.fault.GadgetFault.{GadgetFault}
-use Rattle.relations.specs.Meaning.{Meaning, Step, Side, ask, new_variable, new_lc, enforce}
+use Rattle.relations.specs.Meaning.{Meaning, Step, ask, new_variable, new_lc, enforce}
+use Rattle.relations.specs.declared.term.Side.{Side}
 use Rattle.relations.specs.Script.{Script, answer, refuse, allocate, combine, row, then, next, asking, run, over, restored, whole}
 
 -- what follows a script's run

@@ -3,8 +3,8 @@ use Rattle.std.specs.Prelude.{◌≡◌, ℕ, ◌+◌, ◌-◌, ◌*◌, ◌≤�
 use Rattle.relations.specs.declared.term.Variable.{Variable}
 use Rattle.relations.specs.declared.term.Variable.TheVariants.{One, Zero, Input, Witness, Combination}
 use Rattle.relations.specs.declared.term.Term.{Term}
-pub use Rattle.relations.specs.declared.term.Side.{Side}
-pub use Rattle.relations.specs.declared.term.Side.TheVariants.{Input as input, Witness as witness}
+use Rattle.relations.specs.declared.term.Side.{Side}
+use Rattle.relations.specs.declared.term.Side.TheVariants.{Input as input, Witness as witness}
 use Rattle.relations.specs.declared.fault.SystemFault.{SystemFault}
 use Rattle.relations.specs.declared.fault.SystemFault.TheVariants.{UnknownVariable, MissingValue, InputsFull, WitnessesFull, TermsFull, RowsFull, QuotaFull, MarkRefused}
 use Rattle.relations.specs.Sum.{Sum, sum_of, Row, row_of}

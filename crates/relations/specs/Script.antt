@@ -5,7 +5,8 @@ use Rattle.relations.specs.declared.term.Term.{Term}
 use Rattle.relations.specs.declared.fault.SystemFault.{SystemFault}
 use Rattle.relations.specs.declared.fault.GadgetFault.{GadgetFault}
 use Rattle.relations.specs.declared.fault.GadgetFault.TheVariants.{System}
-use Rattle.relations.specs.Meaning.{Meaning, Step, Side, ask, new_variable, new_lc, enforce}
+use Rattle.relations.specs.Meaning.{Meaning, Step, ask, new_variable, new_lc, enforce}
+use Rattle.relations.specs.declared.term.Side.{Side}
 
 -- what a gadget asks of a system, step by step. The value of a new input or witness is a function of values that are asked for right before it,
 -- and nothing else of a script sees a value: the calls that follow never depend on one

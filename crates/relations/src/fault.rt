@@ -3,7 +3,7 @@ ghost use Rattle.relations.specs.declared.fault.GadgetFault.TheVariants.{System 
 ghost use Rattle.std.specs.Prelude.{◌≡◌};
 
 /// What a constraint system refuses.
-#[derive(Clone, Copy, PartialEq, Eq)]
+#[derive(Clone, Copy)]
 pub enum SystemFault {
     UnknownVariable,
     MissingValue,
@@ -16,7 +16,7 @@ pub enum SystemFault {
 }
 
 /// What a gadget refuses: a fault of the system below it, whole, or one of its own.
-#[derive(Clone, Copy, PartialEq, Eq)]
+#[derive(Clone, Copy)]
 pub enum GadgetFault {
     System(SystemFault),
     TooManyMembers,
@@ -27,7 +27,7 @@ pub enum GadgetFault {
 
 /// A refusal as it is told to the tape's writer: its number, and the layer that it comes from (1 tape, 2 gadget, 3 system,
 /// 4 a layer above a system).
-#[derive(Clone, Copy, PartialEq, Eq)]
+#[derive(Clone, Copy)]
 pub struct Refusal {
     pub number: u32,
     pub layer: u32,

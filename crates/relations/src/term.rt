@@ -10,7 +10,7 @@ pub enum Variable {
 }
 
 /// The side of an assignment on which a new variable stands: the inputs, which everybody knows, or the witnesses.
-#[derive(Clone, Copy, PartialEq, Eq)]
+#[derive(Clone, Copy)]
 pub enum Side {
     Input,
     Witness,

@@ -6,7 +6,8 @@ use Rattle.relations.specs.declared.term.Variable.TheVariants.{Input, Witness, C
 use Rattle.relations.specs.declared.term.Term.{Term}
 use Rattle.relations.specs.declared.fault.SystemFault.TheVariants.{UnknownVariable, MissingValue, InputsFull, WitnessesFull, TermsFull, RowsFull}
 use Rattle.relations.specs.Sum.{handed, all_in, sum_of, row_of}
-use Rattle.relations.specs.Meaning.{Ran, input, witness, new_variable, has_all, has_row, assigned, used, row_use, combo_of, new_lc, admit, enforce}
+use Rattle.relations.specs.Meaning.{Ran, new_variable, has_all, has_row, assigned, used, row_use, combo_of, new_lc, admit, enforce}
+use Rattle.relations.specs.declared.term.Side.TheVariants.{Input as input, Witness as witness}
 use Rattle.words.specs.Words.{tabulate, whole, combinations, combo, rows, meant, triple, floor, Placed, lists_in, triples_in, LcWritten, RowWritten}
 use Rattle.words.specs.State.{State, Fit, view, with_lc, with_row}
 use Rattle.words.proofs.Tables.{tabulate_same, tabulate_more}

@@ -1,6 +1,7 @@
 ghost use Rattle.std.specs.Prelude.{◌≡◌, length};
 ghost use Rattle.std.specs.Option.{option_map};
-ghost use Rattle.relations.specs.Meaning.{Meaning, Stored, Ran, input, witness, ask, new_variable, new_lc, admit, enforce, rewind, cut, Adds, Leaves, Cuts, Sane};
+ghost use Rattle.relations.specs.Meaning.{Meaning, Stored, Ran, ask, new_variable, new_lc, admit, enforce, rewind, cut, Adds, Leaves, Cuts, Sane};
+ghost use Rattle.relations.specs.declared.term.Side.TheVariants.{Input as input, Witness as witness};
 ghost use Rattle.relations.specs.Told.{told};
 
 use field::Field;

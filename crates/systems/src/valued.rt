@@ -1,6 +1,7 @@
 ghost use Rattle.std.specs.Prelude.{◌≡◌, true, false, ◌&&◌, length, take, drop, Some as some, MatchResult, nat_le, nat_lt};
 ghost use Rattle.std.specs.Option.{option_map};
-ghost use Rattle.relations.specs.Meaning.{Ran, input, witness, new_variable, Adds, Leaves};
+ghost use Rattle.relations.specs.Meaning.{Ran, new_variable, Adds, Leaves};
+ghost use Rattle.relations.specs.declared.term.Side.TheVariants.{Input as input, Witness as witness};
 ghost use Rattle.systems.specs.Held.{state, meant_by, Sound};
 ghost use Rattle.systems.specs.Opening.{opening, Opened};
 ghost use Rattle.systems.specs.Outline.{width, working, row_sum, coefficients};

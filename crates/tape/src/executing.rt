@@ -46,8 +46,6 @@ fn as_answer(bit: Result<Boolean, GadgetFault>) -> Result<Answer, GadgetFault>
 
 /// The gadget's call that a command asks for.
 fn perform<F: Field, S: System<F>>(cs: &mut S, action: Action) -> Result<Answer, GadgetFault>
-    requires { S.System.sound cs.old }
-    ensures still { S.System.sound cs.new }
     ensures does { Ran (whole (run F.Field.modulus (action_script F.Field.modulus action))) (S.System.meaning cs.old) result (S.System.meaning cs.new) }
     ensures adds { Adds (S.System.meaning cs.old) (S.System.stored cs.old) (S.System.meaning cs.new) (S.System.stored cs.new) }
     ensures leaves { Leaves result (S.System.stored cs.old) (S.System.stored cs.new) }
@@ -63,8 +61,6 @@ fn execute_steps<F: Field, S: System<F>>(
     circuit: &mut Circuit<S>,
     command: Command,
 ) -> Result<(), TapeFault>
-    requires { S.System.sound circuit.old.system }
-    ensures still { S.System.sound circuit.new.system }
     ensures does { executed F.Field.modulus command (state_of S.System.meaning circuit.old) ≡ (result, state_of S.System.meaning circuit.new) }
     ensures adds { Adds (S.System.meaning circuit.old.system) (S.System.stored circuit.old.system) (S.System.meaning circuit.new.system) (S.System.stored circuit.new.system) }
     ensures leaves { Leaves result (S.System.stored circuit.old.system) (S.System.stored circuit.new.system) }
@@ -83,8 +79,6 @@ pub fn execute<F: Field, S: System<F>>(
     circuit: &mut Circuit<S>,
     command: Command,
 ) -> Result<(), TapeFault>
-    requires { S.System.sound circuit.old.system }
-    ensures still { S.System.sound circuit.new.system }
     ensures does { executed F.Field.modulus command (state_of S.System.meaning circuit.old) ≡ (result, state_of S.System.meaning circuit.new) }
     ensures adds { Adds (S.System.meaning circuit.old.system) (S.System.stored circuit.old.system) (S.System.meaning circuit.new.system) (S.System.stored circuit.new.system) }
     ensures leaves { Leaves result (S.System.stored circuit.old.system) (S.System.stored circuit.new.system) }

@@ -23,7 +23,6 @@ returns-in_err-answer g c =
     let q = err_from_is_err_and c.from_residual-in_err-answer.result c.from_residual-in_err-answer.ensures.1 in
     let is = q.1 ∙ ap Err q.2 in
     record {
-      still = search rules;
       does = refused p c.args.command m n (held_by b) c.in_err-answer.field-0.0 (places_of b) ok ran ∙ ap (λ r. (r, state n (held_by b) (places_of b))) (sym is);
       adds = c.perform.ensures.adds;
       leaves = subst (λ (r : Result (Unit {0}) TapeFault). Leaves r (g.S.System.stored c.args.circuit.now.system) (g.S.System.stored c.perform.new.cs)) (sym is) c.in_err-answer.ensures.leaves;
@@ -42,7 +41,6 @@ returns g c =
     let there : c.push.result ≡ true = c.push.ensures.pushed ∙ lt-ltb _ _ (has_place c.args.command (held_by b) (places_of b) ok) in
     let holds : held_by c.push.new.self ≡ held_by b ++ (x ∷ []) = c.push.ensures.holds ∙ ap (λ (t : Bool). cond t (held_by b ++ (x ∷ [])) (held_by b)) there in
     record {
-      still = search rules;
       does = accepted p c.args.command m n (held_by b) (held_by c.push.new.self) x (places_of b) (places_of c.push.new.self) ok ran holds c.push.ensures.places;
       adds = c.perform.ensures.adds;
       leaves = tt;

@@ -13,7 +13,6 @@ returns-in-Bits g c =
     let m = g.S.System.meaning c.args.cs.now in
     let n = g.S.System.meaning c.call.new.cs in
     record {
-      still = search rules;
       does = ap (λ a. whole (run p (action_script p a)) m) c.in-Bits.is ∙ whole_over p (call_script p c.in-Bits.gadget) Bit m n c.call.result c.call.ensures.does ∙ ap (λ r. (r, n)) (sym c.as_answer.ensures);
       adds = c.call.ensures.adds;
       leaves = leaves_over Bit c.call.result c.as_answer.result _ _ c.as_answer.ensures c.call.ensures.leaves;

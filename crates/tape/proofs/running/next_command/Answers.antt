@@ -11,7 +11,6 @@ returns-in-Err g c =
     let s = state_of g.S.System.meaning c.args.circuit.now in
     let d = c.in-Some.next in
     record {
-      still = search rules;
       adds = c.execute.ensures.adds;
       does = (
         d,

@@ -4,7 +4,6 @@ use Rattle.allocated.proofs.allocated.AllocatedBool.gate_steps.Goals as goal
 pub returns-in-And : goal.returns-in-And
 returns-in-And g c =
     record {
-      still = search rules;
       does = search rules;
       adds = λ l u h. c.forced.ensures.adds l u (c.in_ok-w.ensures.adds l u h);
     }
@@ -12,7 +11,6 @@ returns-in-And g c =
 pub returns-in-Or : goal.returns-in-Or
 returns-in-Or g c =
     record {
-      still = search rules;
       does = search rules;
       adds = λ l u h. c.forced-in-Or.ensures.adds l u (c.in_ok-w.ensures.adds l u h);
     }
@@ -20,7 +18,6 @@ returns-in-Or g c =
 pub returns-in-Xor : goal.returns-in-Xor
 returns-in-Xor g c =
     record {
-      still = search rules;
       does = search rules;
       adds = λ l u h. c.forced-in-Xor.ensures.adds l u (c.in_ok-w.ensures.adds l u h);
     }

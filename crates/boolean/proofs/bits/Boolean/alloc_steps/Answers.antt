@@ -1,22 +1,21 @@
-use Rattle.std.proofs.Common.{ap, rules}
-use Rattle.relations.specs.Meaning.{input, witness}
+use Rattle.std.proofs.Common.{◌≡◌, sym, ap, ◌∙◌, rules}
+use Rattle.relations.specs.Script.{over}
 use Rattle.allocated.specs.Gates.{new_bit}
-use Rattle.boolean.specs.Booleans.{alloc_script}
+use Rattle.boolean.specs.declared.bits.Boolean.TheVariants.{Var}
+use Rattle.boolean.specs.Booleans.{as_var, alloc_script}
 use Rattle.boolean.proofs.Folds.{var_runs}
+use Rattle.boolean.proofs.bits.Boolean.alloc_steps.Goals.{in-Input, in-Witness}
 use Rattle.boolean.proofs.bits.Boolean.alloc_steps.Goals as goal
 
-pub returns-in-Input : goal.returns-in-Input
-returns-in-Input g c =
-    record {
-      still = search rules;
-      does = var_runs g.F.Field.modulus (new_bit g.F.Field.modulus input c.args.value) (alloc_script g.F.Field.modulus c.args.mode c.args.value) _ _ _ _ (ap (λ x. alloc_script g.F.Field.modulus x c.args.value) c.in-Input.is) c.input_steps.ensures.does c.as_var.ensures;
-      adds = c.input_steps.ensures.adds;
-    }
-
-pub returns-in-Witness : goal.returns-in-Witness
-returns-in-Witness g c =
-    record {
-      still = search rules;
-      does = var_runs g.F.Field.modulus (new_bit g.F.Field.modulus witness c.args.value) (alloc_script g.F.Field.modulus c.args.mode c.args.value) _ _ _ _ (ap (λ x. alloc_script g.F.Field.modulus x c.args.value) c.in-Witness.is) c.witness_steps.ensures.does c.as_var-in-Witness.ensures;
-      adds = c.witness_steps.ensures.adds;
-    }
+pub returns-clause-does : goal.returns-clause-does
+returns-clause-does g c =
+    let p = g.F.Field.modulus in
+    let o = c.args.value in
+    let mapped : c.map-2.result ≡ over Var c.variable_steps.result = search rules in
+    let is : alloc_script p c.args.mode o ≡ as_var (new_bit p c.match-mode.side o) =
+    elim c.match-mode.branch [
+      | in-Input w ↦ ap (λ x. alloc_script p x o) w.in-Input.is ∙ ap (λ d. as_var (new_bit p d o)) (sym w.side-is)
+      | in-Witness w ↦ ap (λ x. alloc_script p x o) w.in-Witness.is ∙ ap (λ d. as_var (new_bit p d o)) (sym w.side-is)
+    ]
+    in
+    var_runs p (new_bit p c.match-mode.side o) (alloc_script p c.args.mode o) _ _ _ _ is c.variable_steps.ensures.does mapped

@@ -2,7 +2,8 @@ use Rattle.std.proofs.Common.{ℕ, ◌<◌, set, Some, Ok, Err, Option, sym, ap,
 use Rattle.std.specs.Option.{option_map}
 use Rattle.relations.specs.declared.term.Variable.TheVariants.{Input}
 use Rattle.relations.specs.declared.fault.SystemFault.TheVariants.{MissingValue}
-use Rattle.relations.specs.Meaning.{new_variable, input}
+use Rattle.relations.specs.Meaning.{new_variable}
+use Rattle.relations.specs.declared.term.Side.TheVariants.{Input as input}
 use Rattle.systems.specs.Held.{state}
 use Rattle.systems.proofs.Grown.{Done}
 use Rattle.systems.proofs.Calls.{input_full, input_missing, input_new, with_input}

@@ -2,7 +2,8 @@ use Rattle.std.proofs.Common.{ℕ, ◌+◌, ◌<◌, set, Some, Ok, Err, Option,
 use Rattle.std.specs.Option.{option_map}
 use Rattle.relations.specs.declared.term.Variable.TheVariants.{Witness}
 use Rattle.relations.specs.declared.fault.SystemFault.TheVariants.{MissingValue}
-use Rattle.relations.specs.Meaning.{new_variable, witness}
+use Rattle.relations.specs.Meaning.{new_variable}
+use Rattle.relations.specs.declared.term.Side.TheVariants.{Witness as witness}
 use Rattle.systems.specs.Held.{state}
 use Rattle.systems.proofs.Grown.{Done}
 use Rattle.systems.proofs.Calls.{witness_full, witness_missing, witness_new, with_witness}

@@ -1,10 +1,9 @@
 use Rattle.std.proofs.Common.{rules}
-use Rattle.allocated.proofs.allocated.AllocatedBool.input_steps.Goals as goal
+use Rattle.allocated.proofs.allocated.AllocatedBool.variable_steps.Goals as goal
 
 pub returns : goal.returns
 returns g c =
     record {
-      still = search rules;
       does = search rules;
       adds = λ l u h. c.enforce_boolean.ensures.adds l u (c.in_ok-variable.ensures.adds l u h);
     }
