@@ -1,15 +1,9 @@
 -- One step on through the handed terms.
-use Rattle.std.proofs.Common.{◌≡◌, ℕ, ◌+◌, ◌%◌, ◌<◌, ◌≤◌, Bool, true, false, cond, ◌&&◌, eqb, List, ◌∷◌, length, get_or, drop, sym, ap, ◌∙◌, subst, arith, eq-eqb, ne_eqb}
+use Rattle.std.proofs.Common.{◌≡◌, ℕ, ◌+◌, ◌%◌, ◌<◌, ◌≤◌, Bool, true, false, cond, eqb, List, ◌∷◌, length, get_or, drop, sym, ap, ◌∙◌, subst, arith, eq-eqb, ne_eqb}
 use Rattle.std.proofs.lemmas.List.{at_drop_more, at_drop_all}
 use Rattle.relations.specs.declared.term.Term.{Term}
 use Rattle.relations.specs.Sum.{code, counted, handed, Pairs, total, named, weight, merged}
-use Rattle.words.specs.Words.{there, all_there, Small}
-
-pub there_more : (i w e : ℕ) (ws : List ℕ) (ts : List Term) (j : ℕ) (d : Term) → j < length ts → true ≡ there i w e ws (get_or ts j d).variable → all_there i w e ws (drop j ts) ≡ all_there i w e ws (drop (j + 1) ts)
-there_more i w e ws ts j d h q = at_drop_more (all_there i w e ws) ts j d h ∙ ap (λ (b : Bool). b && all_there i w e ws (drop (j + 1) ts)) (sym q)
-
-pub there_stop : (i w e : ℕ) (ws : List ℕ) (ts : List Term) (j : ℕ) (d : Term) → j < length ts → false ≡ there i w e ws (get_or ts j d).variable → all_there i w e ws (drop j ts) ≡ false
-there_stop i w e ws ts j d h q = at_drop_more (all_there i w e ws) ts j d h ∙ ap (λ (b : Bool). b && all_there i w e ws (drop (j + 1) ts)) (sym q)
+use Rattle.words.specs.Words.{Small}
 
 pub total_same : (p a : ℕ) (ts : List Term) (i : ℕ) (d : Term) (c k : ℕ) → i < length ts → code (get_or ts i d).variable ≡ c → k ≡ counted (get_or ts i d).variable (get_or ts i d).coefficient → total p a (handed (drop i ts)) c ≡ total p ((a + k) % p) (handed (drop (i + 1) ts)) c
 total_same p a ts i d c k h e q =

@@ -21,6 +21,11 @@ abbrev pub pairs : ℕ → ℕ → List ℕ → Pairs
 pairs i zero ws = []
 pairs i (suc n) ws = pairs i n ws ++ ((slice_index ws (2 * (i + n)), slice_index ws (2 * (i + n) + 1)) ∷ [])
 
+-- terms that are read as two words each
+abbrev pub stored : List (List ℕ) → Pairs
+stored [] = []
+stored (t ∷ ts) = (slice_index t 0, slice_index t 1) ∷ stored ts
+
 -- the sum that stored terms mean: each of them counts
 abbrev pub plain : ℕ → Pairs → Sum
 plain p ts = record { value = λ a. value p (λ c. a (decode c)) ts; at = λ v. total p 0 ts (code v); size = length ts; within = λ i w e. all_in i w e ts }
