@@ -63,6 +63,15 @@ abbrev pub Chain : ℕ → ℕ → List ℕ → Type 0
 Chain zero end ws = end ≡ 0
 Chain (suc k) end ws = (heading end ws + 1 ≤ end) × Chain k (end - 1 - heading end ws) ws
 
+-- the newest of `left` combinations that end at a place, taken off: its heading's place, its terms, and what is left
+pub record TakenOff (left end : ℕ) (ws : List ℕ) (left' end' : ℕ) (ws' : List ℕ) (at : ℕ) (ts : Pairs) : Type 0 where
+  pub some : 0 < left
+  pub fewer : left' ≡ left - 1
+  pub lower : end' ≡ end - 1 - heading end ws
+  pub same : ws' ≡ ws
+  pub place : at ≡ end - 1
+  pub terms : ts ≡ pairs (end - 1 - heading end ws) (heading end ws) ws
+
 -- the heading right below a place has the tag 4 and a kept value below p, and no term of its combination has that tag
 pub record Head (p end : ℕ) (ws : List ℕ) : Type 0 where
   pub tag : slice_index_or ws (2 * (end - 1)) 0 % 8 ≡ 4

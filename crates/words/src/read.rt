@@ -118,14 +118,13 @@ impl<'a> Reader<'a> {
         sum
     }
 
-    /// The value modulo p of the `len` stored terms from the place `start` on under the kept words.
-    pub fn worth_at(&self, start: usize, len: usize) -> u32
-        requires lies { (2 * (start + len) ≤ length self.now.terms.now) × (start + len ≤ 65536) }
-        requires named { all_in self.now.inputs self.now.witnesses self.now.front (pairs start len self.now.terms.now) ≡ true }
-        ensures { result ≡ worth self.now.modulus self.now.input_room self.now.values.now self.now.terms.now (pairs start len self.now.terms.now) }
+    /// The value modulo p of stored terms under the kept words.
+    pub fn worth_stored(&self, terms: &[[u32; 2]]) -> u32
+        requires { all_in self.now.inputs self.now.witnesses self.now.front (stored terms.now) ≡ true }
+        ensures { result ≡ worth self.now.modulus self.now.input_room self.now.values.now self.now.terms.now (stored terms.now) }
     {
         let mut sum: u32 = 0;
-        for [c, k] in stored_terms(self.terms, start, len).iter().rev() {
+        for [c, k] in terms.iter().rev() {
             sum = self.add(sum, *c as u64, *k);
         }
         sum

@@ -1,5 +1,5 @@
 use Rattle.words.proofs.Worths.{adding_last, adding_step, stored_last}
-use Rattle.words.proofs.read.Reader.worth_at.Goals as goal
+use Rattle.words.proofs.read.Reader.worth_stored.Goals as goal
 
 pub add-sum-requires : goal.add-sum-requires
 add-sum-requires c = adding_last _ _ _ _ _ _ _ _ _ _ _ _ (stored_last _ _ c.in-Some.field-0.now c.in-Some.ensures.steps) c.loop-c.invariant
