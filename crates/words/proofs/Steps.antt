@@ -30,11 +30,6 @@ merged_first p c all rest after t q ce =
     ap (λ (xs : List Term). merged p all (handed xs)) q
     ∙ ap (λ (x : ℕ). cond {A = Pairs} (eqb (weight p all x (handed after)) 0) (merged p all (handed after)) ((x, weight p all x (handed after)) ∷ merged p all (handed after))) (sym ce)
 
-pub merged_none : (p c k : ℕ) (all : Pairs) (rest after : List Term) (t : Term) → rest ≡ t ∷ after → c ≡ code t.variable → k ≡ weight p all c (handed after) → k ≡ 0 → merged p all (handed rest) ≡ merged p all (handed after)
-merged_none p c k all rest after t q ce e z =
-    merged_first p c all rest after t q ce
-    ∙ ap (λ (b : Bool). cond {A = Pairs} b (merged p all (handed after)) ((c, weight p all c (handed after)) ∷ merged p all (handed after))) (eq-eqb _ _ (sym e ∙ z))
-
 pub merged_some : (p c k : ℕ) (all : Pairs) (rest after : List Term) (t : Term) → rest ≡ t ∷ after → c ≡ code t.variable → k ≡ weight p all c (handed after) → (k ≡ 0 → ⊥) → merged p all (handed rest) ≡ (c, k) ∷ merged p all (handed after)
 merged_some p c k all rest after t q ce e ne =
     merged_first p c all rest after t q ce

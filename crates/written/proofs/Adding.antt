@@ -12,19 +12,6 @@ use Rattle.written.specs.Cells.{cells, variable_at, cell, Below, Added, Spread}
 use Rattle.written.proofs.Cells.{Found, found, cell_code}
 
 -- ---- one term
--- a code without a cell is of no cell's variable
-pub added_none : (p : ℕ) (n : Counts) (k c x : ℕ) (os qs : List ℕ) → None ≡ cell n c → qs ≡ os → Added p n k c x os qs
-added_none p n k c x os qs e q = record {
-  sums = λ j h. ap (λ (xs : List ℕ). get_or xs j 0) q ∙ sym (cond-false _ _ _ (ne_eqb c (code (variable_at n j)) (other j h)));
-  beyond = λ j h. ap (λ (xs : List ℕ). get_or xs j 0) q;
-}
-  where
-    other : (j : ℕ) → j < cells n → c ≡ code (variable_at n j) → ⊥
-    other j h same =
-        let s : cell n c ≡ Some j = ap (cell n) same ∙ cell_code n j h in
-        let z : ◌≡◌ {A = ℕ} 0 1 = cc in
-        omega arith
-
 pub added_some : (p : ℕ) (n : Counts) (k c x m : ℕ) (os qs : List ℕ) → Some m ≡ cell n c → cells n ≤ length os → qs ≡ set os m ((k * x + get_or os m 0) % p) → Added p n k c x os qs
 added_some p n k c x m os qs e long q = record {
   sums = λ j h. ap (λ (xs : List ℕ). get_or xs j 0) q ∙ at j h;
