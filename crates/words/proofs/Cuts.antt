@@ -118,9 +118,6 @@ pub record CutTo (k lcs left end front : ℕ) (ws : List ℕ) : Type 0 where
   pub cut : take k (combinations lcs front ws) ≡ take k (combinations left end ws)
   pub tagged : (p : ℕ) → Tagged p lcs front ws → Tagged p left end ws
 
-pub cut_start : (k lcs front : ℕ) (ws : List ℕ) → k ≤ lcs → Chain lcs front ws → CutTo k lcs lcs front front ws
-cut_start k lcs front ws h c = record { more = h; low = omega arith; chain = c; cut = refl; tagged = λ p t. t }
-
 tagged_down : (p k end : ℕ) (ws : List ℕ) → 0 < k → Tagged p k end ws → Tagged p (k - 1) (end - 1 - heading end ws) ws
 tagged_down p zero end ws h t = absurd (omega arith)
 tagged_down p (suc k) end ws h t = subst (λ (x : ℕ). Tagged p x (end - 1 - heading end ws) ws) (sym (less k)) t.1
