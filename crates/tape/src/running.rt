@@ -27,14 +27,14 @@ fn next_command<F: Field, S: System<F>>(
     let Some(next) = decode(rest) else {
         refused.push_reserved(Refused {
             command: number,
-            refusal: TapeFault::Unknown.refusal(),
+            refusal: TapeFault::Unknown.into(),
         });
         return Ok(None);
     };
     if let Err(fault) = execute(circuit, next.command) {
         refused.push_reserved(Refused {
             command: number,
-            refusal: fault.refusal(),
+            refusal: fault.into(),
         });
     }
     Ok(Some(next.length))

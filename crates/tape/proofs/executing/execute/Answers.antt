@@ -21,7 +21,6 @@ returns g c =
     let t = state_of g.S.System.meaning c.execute_steps.new.circuit in
     let e = c.execute_steps.ensures in
     record {
-      still = e.still;
       does = e.does;
       adds = e.adds;
       leaves = e.leaves;
