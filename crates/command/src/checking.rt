@@ -23,11 +23,7 @@ pub trait Kinds {
 fn names_bit<B: Kinds>(book: &B, a: u32) -> bool
     ensures { result ≡ is_bit (B.Kinds.kinds book.now) a }
 {
-    match book.kind(a) {
-        Some(Kind::Bit) => true,
-        Some(Kind::Number) => false,
-        None => false,
-    }
+    book.kind(a) == Some(Kind::Bit)
 }
 
 /// Whether a command's operands name answers of the right kinds and its bytes are among their values.
