@@ -34,16 +34,6 @@ fn resolve(command: Command, book: &Book) -> Action
     }
 }
 
-/// A Boolean as an answer.
-fn as_answer(bit: Result<Boolean, GadgetFault>) -> Result<Answer, GadgetFault>
-    ensures { result ≡ over in_bit bit }
-{
-    match bit {
-        Ok(b) => Ok(Answer::Bit(b)),
-        Err(fault) => Err(fault),
-    }
-}
-
 /// The gadget's call that a command asks for.
 fn perform<F: Field, S: System<F>>(cs: &mut S, action: Action) -> Result<Answer, GadgetFault>
     ensures does { Ran (whole (run F.Field.modulus (action_script F.Field.modulus action))) (S.System.meaning cs.old) result (S.System.meaning cs.new) }
@@ -52,7 +42,7 @@ fn perform<F: Field, S: System<F>>(cs: &mut S, action: Action) -> Result<Answer,
 {
     match action {
         Action::Alias(answer) => Ok(answer),
-        Action::Bits(gadget) => as_answer(call(&gadget, cs)),
+        Action::Bits(gadget) => call(&gadget, cs).map(Answer::Bit),
     }
 }
 
@@ -69,7 +59,7 @@ fn execute_steps<F: Field, S: System<F>>(
     check(command, &circuit.book, places)?;
     let action = resolve(command, &circuit.book);
     let answer = perform(&mut circuit.system, action)?;
-    circuit.book.push(answer);
+    circuit.book.push(answer)?;
     Ok(())
 }
 

@@ -1,4 +1,4 @@
-use Rattle.std.proofs.Common.{◌≡◌, Bool, true, cond, [], ◌∷◌, ◌++◌, Ok, Err, Result, sym, ap, ◌∙◌, subst, rules, lt-ltb}
+use Rattle.std.proofs.Common.{◌≡◌, Ok, Err, Result, sym, ap, ◌∙◌, subst}
 use Rattle.std.proofs.lemmas.Result.{err_from_is_err_and}
 use Rattle.relations.specs.Meaning.{Leaves}
 use Rattle.relations.specs.Script.{run, whole, over}
@@ -8,7 +8,7 @@ use Rattle.command.specs.Decide.{checked}
 use Rattle.command.specs.Answers.{kinds, action_script}
 use Rattle.tape.specs.Book.{held_by, places_of}
 use Rattle.readings.specs.State.{state}
-use Rattle.tape.proofs.Executes.{has_place, accepted, refused}
+use Rattle.tape.proofs.Executes.{accepted, refused}
 use Rattle.tape.proofs.executing.execute_steps.Goals as goal
 
 pub returns-in_err-answer : goal.returns-in_err-answer
@@ -38,10 +38,8 @@ returns g c =
     c.in_ok-check.ensures ∙ ap (λ k. over (λ _. tt) (checked c.args.command (kinds (held_by b)) k)) c.places-places.ensures in
     let ran = ap (λ (a : Action). whole (run p (action_script p a)) m) (sym c.resolve-action.ensures) ∙ c.in_ok-answer.ensures.does in
     let x = c.in_ok-answer.answer in
-    let there : c.push.result ≡ true = c.push.ensures.pushed ∙ lt-ltb _ _ (has_place c.args.command (held_by b) (places_of b) ok) in
-    let holds : held_by c.push.new.self ≡ held_by b ++ (x ∷ []) = c.push.ensures.holds ∙ ap (λ (t : Bool). cond t (held_by b ++ (x ∷ [])) (held_by b)) there in
     record {
-      does = accepted p c.args.command m n (held_by b) (held_by c.push.new.self) x (places_of b) (places_of c.push.new.self) ok ran holds c.push.ensures.places;
+      does = accepted p c.args.command m n (held_by b) (held_by c.push.new.self) x (places_of b) (places_of c.push.new.self) ok ran c.in_ok-push.ensures.holds c.push.ensures.places;
       adds = c.perform.ensures.adds;
       leaves = tt;
     }

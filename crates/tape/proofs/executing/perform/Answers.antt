@@ -1,5 +1,5 @@
-use Rattle.std.proofs.Common.{sym, ap, ◌∙◌, rules}
-use Rattle.relations.specs.Script.{run, whole}
+use Rattle.std.proofs.Common.{◌≡◌, sym, ap, ◌∙◌, rules}
+use Rattle.relations.specs.Script.{run, whole, over}
 use Rattle.relations.proofs.Then.{whole_over}
 use Rattle.boolean.specs.Booleans.{call_script}
 use Rattle.command.specs.declared.answers.Answer.TheVariants.{Bit}
@@ -12,8 +12,9 @@ returns-in-Bits g c =
     let p = g.F.Field.modulus in
     let m = g.S.System.meaning c.args.cs.now in
     let n = g.S.System.meaning c.call.new.cs in
+    let mapped : c.map.result ≡ over Bit c.call.result = search rules in
     record {
-      does = ap (λ a. whole (run p (action_script p a)) m) c.in-Bits.is ∙ whole_over p (call_script p c.in-Bits.gadget) Bit m n c.call.result c.call.ensures.does ∙ ap (λ r. (r, n)) (sym c.as_answer.ensures);
+      does = ap (λ a. whole (run p (action_script p a)) m) c.in-Bits.is ∙ whole_over p (call_script p c.in-Bits.gadget) Bit m n c.call.result c.call.ensures.does ∙ ap (λ r. (r, n)) (sym mapped);
       adds = c.call.ensures.adds;
-      leaves = leaves_over Bit c.call.result c.as_answer.result _ _ c.as_answer.ensures c.call.ensures.leaves;
+      leaves = leaves_over Bit c.call.result c.map.result _ _ mapped c.call.ensures.leaves;
     }
