@@ -46,23 +46,6 @@ fn perform<F: Field, S: System<F>>(cs: &mut S, action: Action) -> Result<Answer,
     }
 }
 
-/// One command, by what decides before any gadget and the gadget's call.
-fn execute_steps<F: Field, S: System<F>>(
-    circuit: &mut Circuit<S>,
-    command: Command,
-) -> Result<(), TapeFault>
-    ensures does { executed F.Field.modulus command (state_of S.System.meaning circuit.old) ≡ (result, state_of S.System.meaning circuit.new) }
-    ensures adds { Adds (S.System.meaning circuit.old.system) (S.System.stored circuit.old.system) (S.System.meaning circuit.new.system) (S.System.stored circuit.new.system) }
-    ensures leaves { Leaves result (S.System.stored circuit.old.system) (S.System.stored circuit.new.system) }
-{
-    let places = circuit.book.places();
-    check(command, &circuit.book, places)?;
-    let action = resolve(command, &circuit.book);
-    let answer = perform(&mut circuit.system, action)?;
-    circuit.book.push(answer)?;
-    Ok(())
-}
-
 /// One command: accepted or refused as the rules decide. A refusal leaves the system, its words and the book as they were; and where a
 /// run has come to this circuit, the command is the run's next, with all that runs promise.
 pub fn execute<F: Field, S: System<F>>(
@@ -75,5 +58,10 @@ pub fn execute<F: Field, S: System<F>>(
     ensures unchanged { Unchanged result (state_of S.System.meaning circuit.old) (state_of S.System.meaning circuit.new) }
     ensures runs { (h : History) → Running F.Field.modulus h (state_of S.System.meaning circuit.old) → Stepped F.Field.modulus h command (state_of S.System.meaning circuit.old) (state_of S.System.meaning circuit.new) result }
 {
-    execute_steps(circuit, command)
+    let places = circuit.book.places();
+    check(command, &circuit.book, places)?;
+    let action = resolve(command, &circuit.book);
+    let answer = perform(&mut circuit.system, action)?;
+    circuit.book.push(answer)?;
+    Ok(())
 }
