@@ -16,7 +16,7 @@ pub struct Book<'a> {
 pub const MOST: usize = 4096;
 
 impl<'a> Book<'a> {
-    ghost use Rattle.std.specs.Prelude.{◌≡◌, ℕ, min, [], ◌∷◌, ◌++◌, length, if◌then◌else◌, nat_lt};
+    ghost use Rattle.std.specs.Prelude.{◌≡◌, min, [], ◌∷◌, ◌++◌, length, if◌then◌else◌, nat_lt};
     ghost use Rattle.std.specs.Result.{is_ok};
     ghost use Rattle.command.specs.Answers.{answer_at, bit_at};
     ghost use Rattle.tape.specs.Book.{held_by, places_of};

@@ -1,7 +1,6 @@
-ghost use Rattle.std.specs.Prelude.{◌≡◌, ℕ, List};
+ghost use Rattle.std.specs.Prelude.{◌≡◌};
 ghost use Rattle.relations.specs.Meaning.{Ran, Adds, Leaves};
-ghost use Rattle.relations.specs.Script.{Script, run, whole, over};
-ghost use Rattle.command.specs.declared.answers.Answer.TheVariants.{Bit as in_bit};
+ghost use Rattle.relations.specs.Script.{run, whole};
 ghost use Rattle.command.specs.Answers.{action as action_of, action_script};
 ghost use Rattle.tape.specs.Book.{held_by};
 ghost use Rattle.readings.specs.State.{executed};
@@ -10,7 +9,7 @@ ghost use Rattle.tape.specs.State.{state_of};
 
 use crate::book::Book;
 use crate::circuit::Circuit;
-use boolean::{Boolean, BooleanCall};
+use boolean::BooleanCall;
 use command::{Action, Answer, Command, TapeFault, check, mode_of, value_of};
 use field::Field;
 use relations::{GadgetFault, System, call};

@@ -1,4 +1,4 @@
-ghost use Rattle.std.specs.Prelude.{◌≡◌, ℕ, List, []};
+ghost use Rattle.std.specs.Prelude.{◌≡◌, []};
 ghost use Rattle.relations.specs.Meaning.{Adds, Fresh};
 ghost use Rattle.readings.specs.Runs.{History, Running};
 ghost use Rattle.tape.specs.Book.{held_by};
