@@ -9,6 +9,10 @@ use Rattle.command.specs.declared.commands.Decoded.{Decoded}
 abbrev pub bytes : ℕ → ℕ
 bytes op = cond (op == 1) 3 (cond (op == 3) 3 (cond (op == 16) 3 (cond (op == 17) 5 (cond (op == 18) 5 (cond (op == 19) 5 0)))))
 
+-- how many bytes the command with an opcode takes, none where there is no such command
+abbrev pub takes : ℕ → Option ℕ
+takes op = cond (bytes op == 0) None (Some (bytes op))
+
 -- the number of an answer, in two bytes, the low one first
 abbrev pub operand : List ℕ → ℕ → ℕ
 operand bs i = slice_index bs i + 256 * slice_index bs (i + 1)

@@ -2,8 +2,10 @@ ghost use Rattle.std.specs.Prelude.{◌≡◌};
 ghost use Rattle.command.specs.Answers.{kind_of, mode_of, value_of};
 
 use crate::commands::Kind;
+use crate::fault::TapeFault;
 use boolean::{AllocationMode, Boolean, BooleanCall};
 use relations::Refusal;
+use std::fmt;
 
 /// An answer of the book.
 #[derive(Clone, Copy)]
@@ -16,6 +18,34 @@ pub enum Answer {
 pub struct Refused {
     pub command: u32,
     pub refusal: Refusal,
+}
+
+impl Refused {
+    ghost use Rattle.command.specs.Refusals.{of_tape};
+
+    /// The command with a number, refused with a fault.
+    pub fn new(command: u32, fault: TapeFault) -> Refused
+        ensures command { result.command ≡ command }
+        ensures refusal { result.refusal ≡ of_tape fault }
+    {
+        let refusal = fault.into();
+        Refused { command, refusal }
+    }
+}
+
+impl fmt::Display for Refused {
+    ghost use Rattle.std.specs.Prelude.{Some};
+    ghost use Rattle.command.specs.Refusals.{refused_text};
+
+    ghost output = { λ r. Some (refused_text r) };
+
+    fn fmt<W: fmt::Write>(&self, f: &mut fmt::Formatter<W>) -> fmt::Result {
+        let Refused {
+            command,
+            refusal: Refusal { number, layer },
+        } = *self;
+        write!(f, "refused {command} {number} {layer}")
+    }
 }
 
 /// What a command asks for, its operands looked up: an answer that is there already, or a call on bits.
@@ -36,6 +66,7 @@ impl Answer {
     }
 }
 
+// Not a `From`: which byte stands for which mode is the tape's rule, and not the type's.
 /// The mode that a byte stands for: 0 constant, 1 input, 2 and more witness.
 pub fn mode_of(byte: u8) -> AllocationMode
     ensures { result ≡ mode_of byte }
@@ -47,6 +78,7 @@ pub fn mode_of(byte: u8) -> AllocationMode
     }
 }
 
+// Not a `From`, as `mode_of` is none.
 /// The truth value that a byte stands for: 0 false, 1 true, 2 and more none.
 pub fn value_of(byte: u8) -> Option<bool>
     ensures { result ≡ value_of byte }

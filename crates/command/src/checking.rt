@@ -1,7 +1,7 @@
-ghost use Rattle.std.specs.Prelude.{◌≡◌, ℕ, ◌<◌, ◌≤◌, Bool, true, false, List, length};
+ghost use Rattle.std.specs.Prelude.{◌≡◌, List, length};
 ghost use Rattle.relations.specs.Script.{over};
 ghost use Rattle.command.specs.declared.commands.Kind.{Kind as Sort};
-ghost use Rattle.command.specs.Decide.{kind_at, is_bit, fits, answers, checked};
+ghost use Rattle.command.specs.Decide.{kind_at, is_bit, fits, checked};
 
 use crate::commands::{Command, Kind};
 use crate::fault::TapeFault;
@@ -23,11 +23,7 @@ pub trait Kinds {
 fn names_bit<B: Kinds>(book: &B, a: u32) -> bool
     ensures { result ≡ is_bit (B.Kinds.kinds book.now) a }
 {
-    match book.kind(a) {
-        Some(Kind::Bit) => true,
-        Some(Kind::Number) => false,
-        None => false,
-    }
+    book.kind(a) == Some(Kind::Bit)
 }
 
 /// Whether a command's operands name answers of the right kinds and its bytes are among their values.

@@ -1,7 +1,7 @@
 use allocated::Gate;
 
 /// What an answer of the book is: a bit or a number.
-#[derive(Clone, Copy)]
+#[derive(Clone, Copy, PartialEq, Eq)]
 pub enum Kind {
     Bit,
     Number,

@@ -22,13 +22,12 @@ impl From<GadgetFault> for TapeFault {
     }
 }
 
-impl TapeFault {
-    /// The number of the refusal, and the layer that it comes from.
-    pub fn refusal(self) -> Refusal
-        ensures { result ≡ of_tape self }
-    {
-        let (number, layer) = match self {
-            TapeFault::Gadget(fault) => return fault.refusal(),
+impl From<TapeFault> for Refusal {
+    ghost from_gives = { λ f r. r ≡ of_tape f };
+
+    fn from(fault: TapeFault) -> Refusal {
+        let (number, layer) = match fault {
+            TapeFault::Gadget(fault) => return fault.into(),
             TapeFault::Unknown => (1, 1),
             TapeFault::Operand => (2, 1),
             TapeFault::Length => (3, 1),
