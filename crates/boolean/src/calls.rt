@@ -50,6 +50,8 @@ impl Boolean {
         call(&BooleanCall::Not(self), cs)
     }
 
+    // Three calls in place of one that takes the gate: they have the names that the Rust crate gives them, and `a.and(b, cs)` reads plainer at a call.
+
     /// Whether both bits are one; a refusal leaves the system as it was.
     pub fn and<F: Field, S: System<F>>(
         self,

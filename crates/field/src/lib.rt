@@ -34,6 +34,9 @@ pub trait Field: Copy {
     fn one() -> Self
         ensures { number result ≡ 1 };
 
+    // Methods, and not `From<u32>`, `From<i64>` or `Add`: what each gives is said by the trait's own `number`, and a bound on std's traits could say it
+    // in `laws` alone, further from the call.
+
     // The element that stands for a number modulo the prime.
     fn from_number(n: u32) -> Self
         ensures { number result ≡ n % modulus };

@@ -53,7 +53,7 @@ pub enum Layer {
 }
 
 /// A refusal as it is told to the tape's writer: the numbers of its reason and of the layer that it comes from.
-// Numbers, and not the two enums: the text that a run prints is made of them, and a refusal may come from a program of another's.
+// Numbers, and not the two enums: by the format of a run's text this is what is told of a refusal, and no code decides by it.
 #[derive(Clone, Copy)]
 pub struct Refusal {
     pub number: u32,
