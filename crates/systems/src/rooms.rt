@@ -9,6 +9,7 @@ use relations::{Layer, Reason, Refusal};
 use std::marker::PhantomData;
 use written::writer::TooShort;
 
+// A type of its own beside `Counts` and `Mark`: it speaks of terms where they speak of combinations, and a `Mark` has to be spent.
 /// How much of each a system takes.
 #[derive(Clone, Copy)]
 pub struct Rooms {
