@@ -1,4 +1,4 @@
-pub mod Steps
+pub mod Each
 pub mod Frames
 pub mod Storing
 pub mod Merging

@@ -1,13 +1,12 @@
 -- The value of terms under kept words, from the last term down, and stored terms as arrays of two words.
-use Rattle.std.proofs.Common.{◌≡◌, ℕ, zero, suc, ◌+◌, ◌*◌, ◌%◌, ◌<◌, Bool, true, ◌&&◌, List, [], ◌∷◌, ◌++◌, get_or, take, drop, sym, refl, ap, ◌∙◌, arith}
-use Rattle.std.specs.List.{list_all}
+use Rattle.std.proofs.Common.{◌≡◌, ℕ, zero, suc, ◌+◌, ◌*◌, ◌%◌, ◌<◌, true, List, [], ◌∷◌, ◌++◌, get_or, take, drop, sym, refl, ap, ◌∙◌, arith}
 use Rattle.std.specs.Simd.{first_chunks}
 use Rattle.std.proofs.Math.Bool.{and-true}
 use Rattle.std.proofs.lemmas.Bool.{and_parts}
 use Rattle.std.proofs.lemmas.List.{get_or-take, get_or-drop}
 use Rattle.relations.specs.declared.term.Term.{Term}
 use Rattle.relations.specs.Sum.{Pairs, code, decode, counted, handed, code_in, all_in}
-use Rattle.words.specs.Words.{pairs, stored, there, all_there, word_of, worth}
+use Rattle.words.specs.Words.{pairs, stored, word_of, worth}
 use Rattle.words.proofs.Cuts.{all_in_append}
 
 -- the value of terms, onto a sum that stands for those after them
@@ -48,14 +47,6 @@ stored_last xs ys t e = ap stored e ∙ go xs
     go : (xs : List (List ℕ)) → stored (xs ++ (t ∷ [])) ≡ stored xs ++ ((get_or t 0 0, get_or t 1 0) ∷ [])
     go [] = refl
     go (x ∷ xs) = ap (λ (zs : Pairs). (get_or x 0 0, get_or x 1 0) ∷ zs) (go xs)
-
-pub all_there_each : (i w e : ℕ) (ws : List ℕ) (ts : List Term) → list_all (λ t. there i w e ws t.variable) ts ≡ all_there i w e ws ts
-all_there_each i w e ws [] = refl
-all_there_each i w e ws (t ∷ ts) = ap (λ (b : Bool). there i w e ws t.variable && b) (all_there_each i w e ws ts)
-
-pub all_in_each : (i w e : ℕ) (ts : List (List ℕ)) → list_all (λ t. code_in i w e (get_or t 0 0)) ts ≡ all_in i w e (stored ts)
-all_in_each i w e [] = refl
-all_in_each i w e (t ∷ ts) = ap (λ (b : Bool). code_in i w e (get_or t 0 0) && b) (all_in_each i w e ts)
 
 pairs_first : (i n : ℕ) (ws : List ℕ) → pairs i (suc n) ws ≡ (get_or ws (2 * i) 0, get_or ws (2 * i + 1) 0) ∷ pairs (i + 1) n ws
 pairs_first i zero ws = ap (λ (x : ℕ). (get_or ws (2 * x) 0, get_or ws (2 * x + 1) 0) ∷ []) (plus_zero i)

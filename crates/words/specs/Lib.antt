@@ -1,3 +1,4 @@
 pub mod Words
 pub mod State
 pub mod Once
+pub mod Counting

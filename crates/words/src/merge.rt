@@ -30,6 +30,8 @@ pub struct Merged<'a> {
 }
 
 impl<'a> Merged<'a> {
+    ghost use Rattle.words.specs.Counting.{left};
+
     /// The sum modulo p of the coefficients of the variable with the code c.
     pub fn coefficient(&self, c: u64) -> u32
         ensures { result ≡ total self.now.modulus 0 (handed self.now.terms.now) c }
@@ -56,19 +58,21 @@ impl<'a> Merged<'a> {
         }
     }
 
+    // The terms that they are stored as.
+    fn stored(&self) -> Counting<'a>
+        ensures { left result ≡ whole self.now.modulus self.now.terms.now }
+    {
+        Counting {
+            all: *self,
+            rest: self.terms,
+        }
+    }
+
     /// How many different variables have a nonzero coefficient.
     pub fn len(&self) -> usize
         ensures { result ≡ length (whole self.now.modulus self.now.terms.now) }
     {
-        let mut n: usize = 0;
-        let mut rest = self.terms;
-        while let Some((t, after)) = rest.split_first() {
-            if self.weight(read::code_of(t.variable), after) != 0 {
-                n += 1;
-            }
-            rest = after;
-        }
-        n
+        self.stored().count()
     }
 
     /// Writes the terms that they are stored as from the place `at` on.
@@ -79,16 +83,8 @@ impl<'a> Merged<'a> {
         ensures below { (j : ℕ) → j < 2 * at → slice_index words.new j ≡ slice_index words.old j }
         ensures above { (j : ℕ) → 2 * (at + length (whole self.now.modulus self.now.terms.now)) ≤ j → slice_index words.new j ≡ slice_index words.old j }
     {
-        let mut n: usize = 0;
-        let mut rest = self.terms;
-        while let Some((t, after)) = rest.split_first() {
-            let c = read::code_of(t.variable);
-            let k = self.weight(c, after);
-            if k != 0 {
-                put(words, at + n, c as u32, k);
-                n += 1;
-            }
-            rest = after;
+        for (i, (c, k)) in self.stored().enumerate() {
+            put(words, at + i, c as u32, k);
         }
     }
 
@@ -99,6 +95,37 @@ impl<'a> Merged<'a> {
     {
         self.store(words, front);
         put(words, front + n, 8 * n as u32 + 4, kept);
+    }
+}
+
+// The terms that count, from some of the handed terms on: the code of a variable and its whole coefficient, if that is not
+// zero, at the last term to name it.
+#[derive(Drop)]
+struct Counting<'a> {
+    all: Merged<'a>,
+    rest: &'a [Term],
+}
+
+impl<'a> Iterator for Counting<'a> {
+    ghost use Rattle.std.specs.Iterator.{YieldsFirst, item_count};
+    ghost use Rattle.words.specs.Counting.{left};
+
+    type Item = (u64, u32);
+
+    ghost next_gives = { YieldsFirst left };
+
+    ghost remaining = { item_count left };
+
+    fn next(&mut self) -> Option<(u64, u32)> {
+        while let Some((t, after)) = self.rest.split_first() {
+            let c = read::code_of(t.variable);
+            let k = self.all.weight(c, after);
+            self.rest = after;
+            if k != 0 {
+                return Some((c, k));
+            }
+        }
+        None
     }
 }
 

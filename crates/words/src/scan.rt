@@ -23,6 +23,7 @@ impl<'a> Combinations<'a> {
         ensures count { result.left ≡ k }
         ensures words { result.words.now ≡ self.entry.words.now }
         ensures low { result.end ≤ self.entry.end }
+        ensures chain { Chain k result.end self.entry.words.now }
         ensures tagged { (p : ℕ) → Tagged p self.entry.left self.entry.end self.entry.words.now → Tagged p k result.end self.entry.words.now }
         ensures cut { take k (combinations self.entry.left self.entry.end self.entry.words.now) ≡ combinations k result.end self.entry.words.now }
     {

@@ -65,13 +65,6 @@ one_more p k a t x =
     shift : (u v w : ℕ) → u + (v + w) ≡ v + (w + u)
     shift u v w = omega arith
 
--- adding nothing
-same_sum : (p a y : ℕ) → a < p → y ≡ 0 → a ≡ (a + y) % p
-same_sum p a y h z = sym (mod-eq_of_lt h) ∙ ap (λ (x : ℕ). x % p) plus
-  where
-    plus : a ≡ a + y
-    plus = omega arith
-
 spread_push : (p : ℕ) (n : Counts) (k : ℕ) (ts : Pairs) (c x : ℕ) (os qs rs : List ℕ) → Spread p n k ts os qs → Added p n k c x qs rs → Spread p n k (ts ++ ((c, x) ∷ [])) os rs
 spread_push p n k ts c x os qs rs s a = record {
   sums = λ j h. a.sums j h ∙ go j (eqb c (code (variable_at n j))) (s.sums j h) ∙ ap (λ (y : ℕ). (get_or os j 0 + k * y) % p) (sym (total_push p 0 ts c x (code (variable_at n j))));

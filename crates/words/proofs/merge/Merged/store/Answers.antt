@@ -1,33 +1,19 @@
-use Rattle.std.proofs.Common.{◌+◌, ◌*◌, ◌≤◌, length, arith}
+use Rattle.std.proofs.Common.{◌*◌, ◌+◌, ◌≤◌, length, ap, ◌∙◌, arith}
+use Rattle.std.specs.Iterator.Adapters.{enumerate_source, enumerate_count}
 use Rattle.words.specs.Words.{whole}
-use Rattle.words.proofs.Storing.{put_in, fine, Fine, ended}
+use Rattle.words.specs.Counting.{left}
+use Rattle.words.proofs.Storing.{start, put_in, ended}
 use Rattle.words.proofs.merge.Merged.store.Goals as goal
 
-pub put-requires : goal.put-requires
-put-requires c =
-    let f : Fine c.args.self.now.modulus c.loop-t.n c.code_of-c.result c.args.self.now.terms.now =
-    fine _ _ _ _ _ _ _ _ _ _ _ c.in-Some.ensures.cases.0 c.code_of-c.ensures c.weight-k.ensures c.if-k-ne0.true c.loop-t.invariant
-    in
-    (omega (arith, c.requires.fits.1), omega (arith, c.requires.fits.0))
+pub loop-i-init : goal.loop-i-init
+loop-i-init c =
+    start _ _ _ _ _ _ (ap enumerate_count c.into_iter-i-iterator.ensures.into_iter_gives ∙ c.enumerate-i-items.ensures.count)
+    (ap (λ x. left (enumerate_source x)) c.into_iter-i-iterator.ensures.into_iter_gives ∙ ap left c.enumerate-i-items.ensures.source ∙ c.stored.ensures) c.requires.small
 
-pub overflow_add-at : goal.overflow_add-at
-overflow_add-at c =
-    let f : Fine c.args.self.now.modulus c.loop-t.n c.code_of-c.result c.args.self.now.terms.now =
-    fine _ _ _ _ _ _ _ _ _ _ _ c.in-Some.ensures.cases.0 c.code_of-c.ensures c.weight-k.ensures c.if-k-ne0.true c.loop-t.invariant
-    in
-    omega (arith, c.requires.fits.1)
-
-pub overflow_add-n : goal.overflow_add-n
-overflow_add-n c =
-    let f : Fine c.args.self.now.modulus c.loop-t.n c.code_of-c.result c.args.self.now.terms.now =
-    fine _ _ _ _ _ _ _ _ _ _ _ c.in-Some.ensures.cases.0 c.code_of-c.ensures c.weight-k.ensures c.if-k-ne0.true c.loop-t.invariant
-    in
-    omega (arith, c.requires.fits.1)
-
-pub loop-t-preserved-then-k-ne0 : goal.loop-t-preserved-then-k-ne0
-loop-t-preserved-then-k-ne0 c =
-    let f : 2 * (c.args.at + length (whole c.args.self.now.modulus c.args.self.now.terms.now)) ≤ length c.loop-t.words = omega (arith, c.requires.fits.0) in
-    put_in _ _ _ _ _ _ _ _ _ _ _ _ c.put.ensures c.in-Some.ensures.cases.0 c.code_of-c.ensures c.weight-k.ensures c.if-k-ne0.true f c.loop-t.invariant
+pub loop-i-preserved : goal.loop-i-preserved
+loop-i-preserved c =
+    let f : 2 * (c.args.at + length (whole c.args.self.now.modulus c.args.self.now.terms.now)) ≤ length c.loop-i.words = omega (arith, c.requires.fits.0) in
+    put_in _ _ _ _ _ _ _ _ _ _ _ _ c.in-Some.ensures.steps.1 c.in-Some.ensures.steps.2 c.put.ensures c.in-Some.ensures.steps.0 f c.loop-i.invariant
 
 pub returns : goal.returns
-returns c = let h = ended _ _ _ _ _ _ _ c.in_default.ensures.cases c.loop-t.invariant in record { holds = h.holds; below = h.below; above = h.above }
+returns c = let h = ended c.args.self.now.modulus _ _ c.args.self.now.terms.now _ _ _ c.in-None.ensures.steps.0.0 c.loop-i.invariant in record { holds = h.holds; below = h.below; above = h.above }

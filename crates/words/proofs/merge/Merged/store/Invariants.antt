@@ -1,9 +1,8 @@
-use Rattle.std.proofs.Common.{length}
+use Rattle.std.specs.Iterator.Adapters.{enumerate_source, enumerate_count}
+use Rattle.words.specs.Words.{whole}
+use Rattle.words.specs.Counting.{left}
 use Rattle.words.proofs.Storing.{Storing}
 use Rattle.words.proofs.merge.Merged.store.Given as goal
 
-abbrev pub invariant-loop-t : goal.invariant-loop-t
-invariant-loop-t l = Storing l.self.modulus l.at l.n l.rest l.self.terms.now l.words l.initial.words
-
-abbrev pub decreases-loop-t : goal.decreases-loop-t
-decreases-loop-t l = length l.rest
+abbrev pub invariant-loop-i : goal.invariant-loop-i
+invariant-loop-i l = Storing l.at (enumerate_count l.i-iterator) (left (enumerate_source l.i-iterator)) (whole l.self.modulus l.self.terms.now) l.words l.initial.words

@@ -3,7 +3,7 @@ use Rattle.std.proofs.Common.{ℕ, List, get_or, ◌∙◌, rules}
 use Rattle.std.proofs.lemmas.Iterator.{YieldsList-from_slice}
 use Rattle.std.proofs.lemmas.Iterator.Search.{all_from_yields_List}
 use Rattle.relations.specs.Sum.{code_in}
-use Rattle.words.proofs.Worths.{all_in_each}
+use Rattle.words.proofs.Each.{all_in_each}
 use Rattle.words.proofs.scan.Bounds.has_all.Goals as goal
 
 pub returns : goal.returns
