@@ -1,7 +1,12 @@
 -- Texts that are appended piece by piece.
-use Rattle.std.proofs.Common.{◌≡◌, ℕ, ◌+◌, ◌<◌, ◌≤◌, Bool, true, false, cond, List, [], ◌∷◌, ◌++◌, length, get_or, drop, is_ok, IfOk, Ok, Err, Result, sym, refl, ap, ◌∙◌, append_assoc, append-nil, eq-eqb, ne_eqb}
-use Rattle.std.proofs.lemmas.List.{drop_more, drop_all}
-use Rattle.report.specs.Text.{term_text, term_texts, link_text, more_terms, joined_terms, row_text, counts_text}
+use Rattle.std.proofs.Common.{Iter, Bor, None, Some, ◌≡◌, ℕ, ◌+◌, ◌<◌, ◌≤◌, cond, List, [], ◌∷◌, ◌++◌, length, get_or, drop, is_ok, IfOk, Ok, Err, Result, sym, ap, ◌∙◌, append_assoc, eq-eqb, ne_eqb}
+use Rattle.std.proofs.lemmas.List.{drop_more, drop_all, nil_from_length}
+use Rattle.std.specs.declared.iter.Enumerate.{Enumerate}
+use Rattle.std.specs.Iterator.{Yields}
+use Rattle.std.specs.List.{FoldsTo}
+use Rattle.std.specs.Iterator.Adapters.{enumerate_source, enumerate_count, enumerate_steps}
+use Rattle.std.specs.Slice.Iter.{iter_rest, iter_steps}
+use Rattle.report.specs.Text.{term_text, term_texts, row_text, counts_text}
 
 -- a piece, and then the rest
 pub joins : (start middle piece rest all : List ℕ) → middle ≡ start ++ piece → all ≡ middle ++ rest → all ≡ start ++ (piece ++ rest)
@@ -39,45 +44,38 @@ written_all F xs i last before after all le end inv done =
     done ∙ ap (λ t. before ++ t) (sym (ap F (drop_all i xs le) ∙ end)) ∙ inv
 
 -- ---- sums
--- terms that are still to be written, where none or some stand already
-abbrev pub pending : Bool → List (List ℕ) → List ℕ
-pending true ts = joined_terms ts
-pending false ts = more_terms ts
+-- the terms of the coefficients that an iterator has still to give
+abbrev pub left : ℕ → Enumerate (Iter ℕ) → List (List ℕ)
+left inputs it = term_texts inputs (enumerate_count it) (iter_rest (enumerate_source it))
 
-pending_more : (first : Bool) (t : List ℕ) (ts : List (List ℕ)) → pending first (t ∷ ts) ≡ (link_text first ++ t) ++ pending false ts
-pending_more true t ts = refl
-pending_more false t ts = sym (append_assoc (link_text false) t (more_terms ts))
+-- after the last coefficient
+pub none_left : (inputs : ℕ) (s t : Enumerate (Iter ℕ)) → enumerate_steps iter_steps s None t → left inputs s ≡ []
+none_left inputs s t step = ap (term_texts inputs (enumerate_count s)) (nil_from_length (iter_rest (enumerate_source s)) step.0.0)
 
--- what is still to be written of a sum, whose coefficients from the index k on are left
-abbrev pub unwritten : Bool → ℕ → ℕ → List ℕ → List ℕ
-unwritten first inputs k xs = pending first (term_texts inputs k xs)
+-- a zero coefficient has no term
+pub zero_left : (inputs : ℕ) (s t : Enumerate (Iter ℕ)) (x : ℕ × Bor ℕ) → enumerate_steps iter_steps s (Some x) t → x.1.now ≡ 0 → left inputs s ≡ left inputs t
+zero_left inputs s t x step zero =
+    let k = enumerate_count s in
+    let rest = iter_rest (enumerate_source t) in
+    ap (term_texts inputs k) step.0
+    ∙ ap (λ z. cond z (term_texts inputs (k + 1) rest) (term_text inputs k x.1.now ∷ term_texts inputs (k + 1) rest)) (eq-eqb x.1.now 0 zero)
+    ∙ ap (λ j. term_texts inputs j rest) (sym step.2)
 
-abbrev at_test : Bool → Bool → ℕ → ℕ → ℕ → List ℕ → List ℕ
-at_test z first inputs k x xs = pending first (cond z (term_texts inputs (k + 1) xs) (term_text inputs k x ∷ term_texts inputs (k + 1) xs))
+-- any other has one
+pub one_left : (inputs : ℕ) (s t : Enumerate (Iter ℕ)) (x : ℕ × Bor ℕ) → enumerate_steps iter_steps s (Some x) t → (x.1.now ≡ 0 → ⊥) → left inputs s ≡ term_text inputs x.0 x.1.now ∷ left inputs t
+one_left inputs s t x step other =
+    let k = enumerate_count s in
+    let rest = iter_rest (enumerate_source t) in
+    ap (term_texts inputs k) step.0
+    ∙ ap (λ z. cond z (term_texts inputs (k + 1) rest) (term_text inputs k x.1.now ∷ term_texts inputs (k + 1) rest)) (ne_eqb x.1.now 0 other)
+    ∙ ap (λ j. term_text inputs j x.1.now ∷ term_texts inputs (k + 1) rest) (sym step.1)
+    ∙ ap (λ j. term_text inputs x.0 x.1.now ∷ term_texts inputs j rest) (sym step.2)
 
--- a zero coefficient writes nothing
-pub sum_skips : (first : Bool) (inputs k x : ℕ) (xs : List ℕ) → x ≡ 0 → unwritten first inputs k (x ∷ xs) ≡ unwritten first inputs (k + 1) xs
-sum_skips first inputs k x xs e = ap (λ z. at_test z first inputs k x xs) (eq-eqb x 0 e)
-
--- any other writes its term
-pub sum_goes : (first : Bool) (inputs k x : ℕ) (xs : List ℕ) → (x ≡ 0 → ⊥) → unwritten first inputs k (x ∷ xs) ≡ (link_text first ++ term_text inputs k x) ++ unwritten false inputs (k + 1) xs
-sum_goes first inputs k x xs n =
-    ap (λ z. at_test z first inputs k x xs) (ne_eqb x 0 n) ∙ pending_more first (term_text inputs k x) (term_texts inputs (k + 1) xs)
-
--- the next turn of the loop over a sum's coefficients, where the coefficient is zero, and where it is not
-pub sum_skipped : (first later : Bool) (inputs k : ℕ) (xs before after all : List ℕ) → k < length xs → before ++ unwritten first inputs k (drop k xs) ≡ all → get_or xs k 0 ≡ 0 → later ≡ first → after ≡ before → after ++ unwritten later inputs (k + 1) (drop (k + 1) xs) ≡ all
-sum_skipped first later inputs k xs before after all lt inv e same done =
-    written_more (unwritten first inputs k) (unwritten later inputs (k + 1)) xs k 0 [] before after all lt
-    (sum_skips first inputs k (get_or xs k 0) (drop (k + 1) xs) e ∙ ap (λ z. unwritten z inputs (k + 1) (drop (k + 1) xs)) (sym same))
-    inv
-    (done ∙ sym (append-nil before))
-
-pub sum_gone : (first later : Bool) (inputs k : ℕ) (xs before after same all : List ℕ) → k < length xs → before ++ unwritten first inputs k (drop k xs) ≡ all → (get_or xs k 0 ≡ 0 → ⊥) → later ≡ false → after ≡ before ++ (link_text first ++ term_text inputs k (get_or xs k 0)) → same ≡ after → same ++ unwritten later inputs (k + 1) (drop (k + 1) xs) ≡ all
-sum_gone first later inputs k xs before after same all lt inv n some done is =
-    let piece = link_text first ++ term_text inputs k (get_or xs k 0) in
-    written_more (unwritten first inputs k) (unwritten later inputs (k + 1)) xs k 0 piece before same all lt
-    (sum_goes first inputs k (get_or xs k 0) (drop (k + 1) xs) n ∙ ap (λ z. piece ++ unwritten z inputs (k + 1) (drop (k + 1) xs)) (sym some))
-    inv (is ∙ done)
+-- where a search passes over zero coefficients
+pub zeros_left : {F : Type 0} (passes : F → ℕ × Bor ℕ → F → Type 0) (zero : (p : F) (x : ℕ × Bor ℕ) (q : F) → passes p x q → x.1.now ≡ 0) (inputs : ℕ) (s : Enumerate (Iter ℕ)) (xs : List (ℕ × Bor ℕ)) (t : Enumerate (Iter ℕ)) (p q : F) → Yields (enumerate_steps iter_steps) s xs t → FoldsTo passes p xs q → left inputs s ≡ left inputs t
+zeros_left passes zero inputs s [] t p q run passed = ap (left inputs) run
+zeros_left passes zero inputs s (x ∷ xs) t p q run passed =
+    zero_left inputs s run.0 x run.1 (zero p x passed.0 passed.1) ∙ zeros_left passes zero inputs run.0 xs t passed.0 q run.2 passed.2
 
 -- ---- rows
 pub same_row : (i j : ℕ) (a l b r c p : List ℕ) → i ≡ j → a ≡ l → b ≡ r → c ≡ p → row_text i a b c ≡ row_text j l r p
