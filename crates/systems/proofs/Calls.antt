@@ -1,5 +1,5 @@
 -- Each call that adds to a system over words does its step.
-use Rattle.std.proofs.Common.{◌≡◌, ℕ, ◌+◌, ◌-◌, ◌*◌, ◌<◌, ◌≤◌, Bool, true, false, ◌&&◌, ltb, leb, List, [], ◌∷◌, ◌++◌, map, length, get_or, set, Some, None, Ok, Err, Option, sym, refl, ap, ◌∙◌, subst, inl, inr, eq-or-lt_of_le, arith, length-set, get_or-set_other, get_or-set_same, le-ltb, lt-ltb, le-leb}
+use Rattle.std.proofs.Common.{◌≡◌, ℕ, ◌+◌, ◌-◌, ◌*◌, ◌<◌, ◌≤◌, Bool, true, false, ◌&&◌, ltb, leb, List, [], ◌∷◌, ◌++◌, map, length, get_or, set, Some, None, Ok, Err, Option, Result, MatchResult, sym, refl, ap, ◌∙◌, subst, inl, inr, eq-or-lt_of_le, arith, length-set, get_or-set_other, get_or-set_same, le-ltb, lt-ltb, le-leb}
 use borrow.Author.Tests.{lt-leb}
 use Rattle.std.proofs.lemmas.List.{map-append}
 use Rattle.relations.specs.declared.term.Variable.TheVariants.{Input, Witness, Combination}
@@ -8,23 +8,31 @@ use Rattle.relations.specs.declared.fault.SystemFault.TheVariants.{UnknownVariab
 use Rattle.relations.specs.Sum.{handed, all_in, sum_of, row_of}
 use Rattle.relations.specs.Meaning.{Ran, new_variable, has_all, has_row, assigned, used, row_use, combo_of, new_lc, admit, enforce}
 use Rattle.relations.specs.declared.term.Side.TheVariants.{Input as input, Witness as witness}
+use Rattle.relations.specs.declared.fault.SystemFault.{SystemFault}
+use Rattle.relations.specs.Script.{over}
 use Rattle.words.specs.Words.{tabulate, whole, combinations, combo, rows, meant, triple, floor, Placed, lists_in, triples_in, LcWritten, RowWritten}
 use Rattle.words.specs.State.{State, Fit, view, with_lc, with_row}
 use Rattle.words.proofs.Tables.{tabulate_same, tabulate_more}
 use Rattle.words.proofs.Values.{stored_means}
 use Rattle.words.proofs.Areas.{chain_same, chain_more, tagged_same, tagged_more, combinations_same, combinations_more, rows_same, rows_more, stack_same, stack_more, floor_same, floor_more}
-use Rattle.words.proofs.Cuts.{lists_in_append, triples_in_append, lists_in_more, triples_in_more, all_in_more}
+use Rattle.words.proofs.Cuts.{both, lists_in_append, triples_in_append, lists_in_more, triples_in_more, all_in_more}
 use Rattle.words.proofs.There.{merged_in, stored_free}
 use Rattle.systems.specs.Held.{Sized, Refused}
 use Rattle.systems.proofs.Views.{inputs_long, witnesses_long, rows_long, places_are, used_is, has_all_in}
 use Rattle.systems.proofs.Grown.{Done, refuse, accept}
 
 -- ---- inputs and witnesses
+abbrev pub inputs_to : State → ℕ → List ℕ → State
+inputs_to s n vs = record { modulus = s.modulus; inputs = n + 1; witnesses = s.witnesses; lcs = s.lcs; count = s.count; front = s.front; back = s.back; input_room = s.input_room; witness_room = s.witness_room; term_room = s.term_room; row_room = s.row_room; row_words = s.row_words; term_words = s.term_words; value_words = vs }
+
+abbrev pub witnesses_to : State → ℕ → List ℕ → State
+witnesses_to s n vs = record { modulus = s.modulus; inputs = s.inputs; witnesses = n + 1; lcs = s.lcs; count = s.count; front = s.front; back = s.back; input_room = s.input_room; witness_room = s.witness_room; term_room = s.term_room; row_room = s.row_room; row_words = s.row_words; term_words = s.term_words; value_words = vs }
+
 abbrev pub with_input : State → List ℕ → State
-with_input s vs = record { modulus = s.modulus; inputs = s.inputs + 1; witnesses = s.witnesses; lcs = s.lcs; count = s.count; front = s.front; back = s.back; input_room = s.input_room; witness_room = s.witness_room; term_room = s.term_room; row_room = s.row_room; row_words = s.row_words; term_words = s.term_words; value_words = vs }
+with_input s vs = inputs_to s s.inputs vs
 
 abbrev pub with_witness : State → List ℕ → State
-with_witness s vs = record { modulus = s.modulus; inputs = s.inputs; witnesses = s.witnesses + 1; lcs = s.lcs; count = s.count; front = s.front; back = s.back; input_room = s.input_room; witness_room = s.witness_room; term_room = s.term_room; row_room = s.row_room; row_words = s.row_words; term_words = s.term_words; value_words = vs }
+with_witness s vs = witnesses_to s s.witnesses vs
 
 pub input_full : (s : State) (o : Option ℕ) → Fit s → s.input_room ≤ s.inputs → Done (new_variable input o) s (Err InputsFull) s
 input_full s o f h =
@@ -270,24 +278,15 @@ lc_new s ts n kept vs f e q h k b l x =
         rw (t, z) (λ i. (Ok (Combination (places_are s f i + sym q i)), record { keeps = true; inputs = (view s).inputs; witnesses = (view s).witnesses; combos = more i; rows = map (meant s.modulus) (lc_rows s ts n kept vs f h x i); input_room = s.input_room; witness_room = s.witness_room; term_room = s.term_room; row_room = s.row_room; capped = false }))
 
 -- ---- rows
-row_unknown : (s : State) (a b c : List Term) → has_row (view s) a b c ≡ false → Refused s a b c UnknownVariable
-row_unknown s a b c t = record { admits = rw t; does = rw t }
+-- what a row names is there where each of its sums names what is there
+pub each_known : (s : State) (a b c : List Term) → has_row (view s) a b c ≡ true → (has_all (view s) a ≡ true) × (has_all (view s) b ≡ true) × (has_all (view s) c ≡ true)
+each_known s a b c e =
+    let x = both (has_all (view s) a) _ e in
+    let y = both (has_all (view s) b) (has_all (view s) c) x.1 in
+    (x.0, y.0, y.1)
 
-pub row_unknown_a : (s : State) (a b c : List Term) → false ≡ has_all (view s) a → Refused s a b c UnknownVariable
-row_unknown_a s a b c e = row_unknown s a b c (sym (ap (λ (x : Bool). x && (has_all (view s) b && has_all (view s) c)) e))
-
-pub row_unknown_b : (s : State) (a b c : List Term) → true ≡ has_all (view s) a → false ≡ has_all (view s) b → Refused s a b c UnknownVariable
-row_unknown_b s a b c d e = row_unknown s a b c (sym (λ i. d i && (e i && has_all (view s) c)))
-
-pub row_unknown_c : (s : State) (a b c : List Term) → true ≡ has_all (view s) a → true ≡ has_all (view s) b → false ≡ has_all (view s) c → Refused s a b c UnknownVariable
-row_unknown_c s a b c d e g = row_unknown s a b c (sym (λ i. d i && (e i && g i)))
-
-row_known : (s : State) (a b c : List Term) → true ≡ has_all (view s) a → true ≡ has_all (view s) b → true ≡ has_all (view s) c → has_row (view s) a b c ≡ true
-row_known s a b c d e g = sym (λ i. d i && (e i && g i))
-
-pub row_terms_full : (s : State) (a b c : List Term) (la lb lc : ℕ) → Fit s → true ≡ has_all (view s) a → true ≡ has_all (view s) b → true ≡ has_all (view s) c → la ≡ length (whole s.modulus a) → lb ≡ length (whole s.modulus b) → lc ≡ length (whole s.modulus c) → s.back - s.front < la + lb + lc → Refused s a b c TermsFull
-row_terms_full s a b c la lb lc f ka kb kc ea eb ec h =
-    let t = row_known s a b c ka kb kc in
+pub row_terms_full : (s : State) (a b c : List Term) (la lb lc : ℕ) → Fit s → has_row (view s) a b c ≡ true → la ≡ length (whole s.modulus a) → lb ≡ length (whole s.modulus b) → lc ≡ length (whole s.modulus c) → s.back - s.front < la + lb + lc → Refused s a b c TermsFull
+row_terms_full s a b c la lb lc f t ea eb ec h =
     let z : leb (used (view s) + row_use (row_of s.modulus a b c)) s.term_room ≡ false = lt-leb _ _ (omega (arith, used_is s f, f.terms_in, f.back_in)) in
     record { admits = rw (t, z); does = rw (t, z) }
 
@@ -302,6 +301,10 @@ row_admitted s a b c la lb lc f x =
     let t = sized_known s a b c la lb lc x in
     let z = sized_room s a b c la lb lc f x in
     rw (t, z)
+
+pub admitted : (s : State) (a b c : List Term) (r : Result (ℕ × ℕ × ℕ) SystemFault) (q : Result (Unit {0}) SystemFault) → Fit s → MatchResult r (λ n. Sized s a b c n.0 n.1 n.2) (Refused s a b c) → q ≡ over (λ n. tt) r → q ≡ (admit s.modulus a b c (view s)).0
+admitted s a b c (Ok n) q f h e = e ∙ sym (ap (λ x. x.0) (row_admitted s a b c n.0 n.1 n.2 f h))
+admitted s a b c (Err k) q f h e = e ∙ sym (ap (λ x. x.0) h.admits)
 
 pub row_full : (s : State) (a b c : List Term) (la lb lc : ℕ) → Fit s → Sized s a b c la lb lc → s.row_room ≤ s.count → Done (enforce s.modulus a b c) s (Err RowsFull) s
 row_full s a b c la lb lc f x h =

@@ -1,6 +1,7 @@
 pub mod Views
 pub mod Grown
 pub mod Calls
+pub mod Variables
 pub mod Rewinds
 pub mod Unmet
 pub mod Outline

@@ -1,5 +1,6 @@
 -- A row's sums written out.
-use Rattle.std.proofs.Common.{◌≡◌, ℕ, zero, suc, ◌+◌, ◌-◌, ◌<◌, ◌≤◌, Bool, true, false, cond, eqb, ltb, List, [], ◌∷◌, ◌++◌, length, get_or, take, drop, sym, refl, ap, ◌∙◌, subst, le_of_suc-le-suc, arith, ltb-false, ltb-true}
+use Rattle.std.proofs.Common.{◌≡◌, ℕ, zero, suc, ◌+◌, ◌-◌, ◌<◌, ◌≤◌, Bool, true, false, cond, eqb, ltb, List, [], ◌∷◌, ◌++◌, length, get_or, take, drop, sym, refl, ap, ◌∙◌, subst, le_of_suc-le-suc, arith, ltb-false, ltb-true, Ok, Err, Result, leb, le-ltb, lt-ltb, le-leb}
+use borrow.Author.Tests.{lt-leb}
 use Rattle.std.proofs.lemmas.Bool.{eqb-true, eqb-false}
 use Rattle.relations.specs.declared.term.Variable.{Variable}
 use Rattle.relations.specs.declared.term.Variable.TheVariants.{One, Input, Witness}
@@ -12,9 +13,12 @@ use Rattle.words.proofs.Tables.{tabulate_same, tabulate_length}
 use Rattle.written.specs.declared.Counts.{Counts}
 use Rattle.written.specs.Cells.{cells, Over, Readable, written_out}
 use Rattle.written.proofs.Rows.{readable}
-use Rattle.systems.specs.declared.lent.Part.{Part}
-use Rattle.systems.specs.declared.lent.Part.TheVariants.{A, B, C}
-use Rattle.systems.specs.Outline.{place, outline, working, width, placed, coefficients, row_sum}
+use Rattle.systems.specs.declared.rooms.OutlineFault.{OutlineFault}
+use Rattle.systems.specs.declared.rooms.OutlineFault.TheVariants.{NoSuchRow, TooShort}
+use Rattle.systems.specs.declared.store.Part.{Part}
+use Rattle.systems.specs.declared.store.Part.TheVariants.{A, B, C}
+use Rattle.systems.proofs.Views.{rows_long}
+use Rattle.systems.specs.Outline.{place, outline, working, width, placed, coefficients, row_sum, outlining}
 use Rattle.systems.proofs.Unmet.{row_is}
 
 -- the words of a part lie in their room
@@ -100,3 +104,21 @@ outlined s part i at n os qs ea en h e l o =
     outlined_so s part i os qs h e (subst (λ (m : Counts). cells m ≤ length os) en l)
     (subst (λ (m : Counts). Over m (written_out s.modulus m (get_or s.row_words (place part i) 0) (get_or s.row_words (place part i + 1) 0) s.term_words) os qs) en
     (subst (λ (x : ℕ). Over n (written_out s.modulus n (get_or s.row_words x 0) (get_or s.row_words (x + 1) 0) s.term_words) os qs) ea o))
+
+-- ---- what writing a part of row i out comes to
+pub no_such_row : (s : State) (i l : ℕ) → s.count ≤ i → ◌≡◌ {A = Result (Unit {0}) OutlineFault} (Err NoSuchRow) (outlining (length (view s).rows) (working s) i l)
+no_such_row s i l h =
+    let t : ltb i (length (view s).rows) ≡ false = le-ltb i _ (omega (arith, rows_long s)) in
+    sym (rw t)
+
+pub too_short : (s : State) (i l : ℕ) → i < s.count → l < working s → ◌≡◌ {A = Result (Unit {0}) OutlineFault} (Err TooShort) (outlining (length (view s).rows) (working s) i l)
+too_short s i l h k =
+    let t : ltb i (length (view s).rows) ≡ true = lt-ltb i _ (omega (arith, rows_long s)) in
+    let z : leb (working s) l ≡ false = lt-leb (working s) l k in
+    sym (rw (t, z))
+
+pub written_out_fits : (s : State) (i l : ℕ) → i < s.count → working s ≤ l → ◌≡◌ {A = Result (Unit {0}) OutlineFault} (Ok tt) (outlining (length (view s).rows) (working s) i l)
+written_out_fits s i l h k =
+    let t : ltb i (length (view s).rows) ≡ true = lt-ltb i _ (omega (arith, rows_long s)) in
+    let z : leb (working s) l ≡ true = le-leb (working s) l k in
+    sym (rw (t, z))

@@ -1,3 +1,5 @@
+pub mod Props
+pub mod Stores
 pub mod Held
 pub mod Opening
 pub mod Outline

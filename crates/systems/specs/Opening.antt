@@ -3,11 +3,12 @@ use Rattle.std.specs.Prelude.{◌≡◌, ℕ, ◌+◌, ◌*◌, Bool, true, fals
 use Rattle.relations.specs.declared.fault.Refusal.{Refusal}
 use Rattle.relations.specs.Fault.{refusal}
 use Rattle.relations.specs.Meaning.{Stored, empty}
-use Rattle.systems.specs.declared.lent.Lent.{Lent}
-use Rattle.systems.specs.declared.lent.Rooms.{Rooms}
-use Rattle.systems.specs.declared.lent.OpenFault.{OpenFault}
-use Rattle.systems.specs.declared.lent.OpenFault.TheVariants.{RoomTooLarge, ShortValues, ShortTerms, ShortRows}
-use Rattle.systems.specs.Held.{meant_by, stored_by, Sound}
+use Rattle.field.specs.declared.Field.{Ghosts}
+use Rattle.systems.specs.declared.valued.Valued.{Valued}
+use Rattle.systems.specs.declared.rooms.Rooms.{Rooms}
+use Rattle.systems.specs.declared.rooms.OpenFault.{OpenFault}
+use Rattle.systems.specs.declared.rooms.OpenFault.TheVariants.{RoomTooLarge, ShortValues, ShortTerms, ShortRows}
+use Rattle.systems.specs.Held.{meant_by, stored_by}
 
 -- each refusal with its number, in the layer of systems
 abbrev pub of_opening : OpenFault → Refusal
@@ -34,10 +35,9 @@ opening r v t w =
 abbrev pub nothing : Stored
 nothing = record { inputs = []; witnesses = []; combos = []; rows = []; terms = [] }
 
--- a system just opened over the field with p elements: sound and empty, over the lent words as they are
-pub record Opened (p : ℕ) (r : Rooms) (vs ts rs : List ℕ) (v : Lent) : Type 0 where
+-- a system just opened over the field with p elements: empty, over the lent words as they are
+pub record Opened {F : Type 0} {G : Ghosts F} (p : ℕ) (r : Rooms) (vs ts rs : List ℕ) (v : Valued F G) : Type 0 where
   pub fits : opening r (length vs) (length ts) (length rs) ≡ None
-  pub sound : Sound p v
   pub means : meant_by v ≡ empty true r.inputs r.witnesses r.terms r.rows false
   pub stored : stored_by v ≡ nothing
   pub values : v.values.now ≡ vs

@@ -1,5 +1,5 @@
 -- A row's sums written out: over One, the inputs and the witnesses.
-use Rattle.std.specs.Prelude.{ℕ, ◌+◌, ◌-◌, ◌*◌, cond, List, [], length, ◌==◌, nat_lt, slice_index_or}
+use Rattle.std.specs.Prelude.{ℕ, ◌+◌, ◌-◌, ◌*◌, cond, List, [], length, Ok, Err, Result, ◌==◌, nat_le, nat_lt, slice_index_or}
 use Rattle.relations.specs.declared.term.Variable.{Variable}
 use Rattle.relations.specs.declared.term.Variable.TheVariants.{One, Input, Witness}
 use Rattle.relations.specs.Sum.{Sum, Row, row_of}
@@ -8,8 +8,10 @@ use Rattle.relations.specs.Written.{written}
 use Rattle.words.specs.Words.{tabulate}
 use Rattle.words.specs.State.{State}
 use Rattle.written.specs.declared.Counts.{Counts}
-use Rattle.systems.specs.declared.lent.Part.{Part}
-use Rattle.systems.specs.declared.lent.Part.TheVariants.{A, B, C}
+use Rattle.systems.specs.declared.rooms.OutlineFault.{OutlineFault}
+use Rattle.systems.specs.declared.rooms.OutlineFault.TheVariants.{NoSuchRow, TooShort}
+use Rattle.systems.specs.declared.store.Part.{Part}
+use Rattle.systems.specs.declared.store.Part.TheVariants.{A, B, C}
 
 -- where a part of row i stands in the words of rows
 abbrev pub place : Part → ℕ → ℕ
@@ -24,6 +26,10 @@ outline s = record { inputs = s.inputs; witnesses = s.witnesses; lcs = s.lcs; fr
 -- how many words it takes
 abbrev pub working : State → ℕ
 working s = 1 + s.inputs + s.witnesses + s.front
+
+-- what writing out one of the sums of row i comes to, where there are n rows, it takes w words, and there are l
+abbrev pub outlining : ℕ → ℕ → ℕ → ℕ → Result (Unit {0}) OutlineFault
+outlining n w i l = cond (nat_lt i n) (cond (nat_le w l) (Ok tt) (Err TooShort)) (Err NoSuchRow)
 
 -- how many coefficients a sum has
 abbrev pub width : Meaning → ℕ

@@ -1,9 +1,11 @@
 #![tactic(auto)]
 
-mod keeping;
-mod lent;
+mod asked;
+mod reading;
+mod rooms;
+mod store;
 mod valued;
 
-pub use keeping::Keeping;
-pub use lent::{Counts, Lent, OpenFault, Part, Rooms, Store};
-pub use valued::{Valued, open};
+pub use rooms::{Counts, OpenFault, OutlineFault, Rooms, open};
+pub use store::{Part, Store};
+pub use valued::Valued;

@@ -1,0 +1,38 @@
+-- A store of rows and terms in lent words.
+use Rattle.std.specs.Prelude.{◌≡◌, ℕ, ◌-◌, List, length}
+use Rattle.systems.specs.declared.store.Store.{Store}
+use Rattle.relations.specs.declared.term.Term.{Term}
+use Rattle.words.specs.Words.{LcWritten, RowWritten}
+use Rattle.words.specs.State.{State, with_lc, with_row}
+
+-- a store, beside these kept values
+abbrev pub beside : Store → List ℕ → State
+beside s vs = record {
+  modulus = s.modulus;
+  inputs = s.inputs;
+  witnesses = s.witnesses;
+  lcs = s.combinations;
+  count = s.count;
+  front = s.front;
+  back = s.back;
+  input_room = s.input_room;
+  witness_room = s.witness_room;
+  term_room = s.term_room;
+  row_room = s.row_room;
+  row_words = s.rows.now;
+  term_words = s.terms.now;
+  value_words = vs;
+}
+
+-- a store with a combination more
+pub record LcAdded (n kept : ℕ) (ts : List Term) (s t : Store) : Type 0 where
+  pub written : LcWritten s.modulus s.front n kept ts s.terms.now t.terms.now
+  pub long : length t.terms.now ≡ length s.terms.now
+  pub rest : (vs : List ℕ) → beside t vs ≡ with_lc (beside s vs) n t.terms.now
+
+-- a store with a row more
+pub record RowAdded (la lb lc : ℕ) (a b c : List Term) (s t : Store) : Type 0 where
+  pub written : RowWritten s.modulus s.count s.back (s.back - la - lb - lc) a b c s.rows.now t.rows.now s.terms.now t.terms.now
+  pub rows_long : length t.rows.now ≡ length s.rows.now
+  pub terms_long : length t.terms.now ≡ length s.terms.now
+  pub rest : (vs : List ℕ) → beside t vs ≡ with_row (beside s vs) (s.back - la - lb - lc) t.rows.now t.terms.now

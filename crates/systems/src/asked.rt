@@ -1,0 +1,138 @@
+ghost use Rattle.std.specs.Option.{option_map};
+ghost use Rattle.relations.specs.Meaning.{Ran, new_variable, Adds, Leaves};
+ghost use Rattle.systems.specs.Held.{meant_by, stored_by};
+
+use crate::reading::Ends;
+use crate::rooms::Counts;
+use crate::valued::Valued;
+use field::Field;
+use relations::{Mark, Side, System, SystemFault, Term, Variable};
+use words::merge;
+
+impl<'a, F: Field> System<F> for Valued<'a, F> {
+    ghost meaning = { meant_by };
+
+    ghost stored = { stored_by };
+
+    fn new_variable(&mut self, side: Side, value: Option<F>) -> Result<Variable, SystemFault>
+        ensures does { Ran (new_variable side (option_map F.Field.number value)) (meant_by self.old) result (meant_by self.new) }
+        ensures adds { Adds (meant_by self.old) (stored_by self.old) (meant_by self.new) (stored_by self.new) }
+        ensures leaves { Leaves result (stored_by self.old) (stored_by self.new) }
+    {
+        let (n, room, full) = match side {
+            Side::Input => (
+                self.store.inputs,
+                self.store.input_room,
+                SystemFault::InputsFull,
+            ),
+            Side::Witness => (
+                self.store.witnesses,
+                self.store.witness_room,
+                SystemFault::WitnessesFull,
+            ),
+        };
+        if n >= room {
+            return Err(full);
+        }
+        let Some(x) = value else {
+            return Err(SystemFault::MissingValue);
+        };
+        let number = x.to_number();
+        match side {
+            Side::Input => {
+                self.values[n] = number;
+                self.store.inputs = n + 1;
+                Ok(Variable::Input(n as u32))
+            }
+            Side::Witness => {
+                let at = self.store.input_room + n;
+                self.values[at] = number;
+                self.store.witnesses = n + 1;
+                Ok(Variable::Witness(n as u32))
+            }
+        }
+    }
+
+    fn new_lc(&mut self, terms: &[Term]) -> Result<Variable, SystemFault> {
+        let (front, p) = (self.store.front, self.store.modulus);
+        if !self.has_all(terms) {
+            return Err(SystemFault::UnknownVariable);
+        }
+        let n = merge::merged_len(p, terms);
+        if n >= self.store.back - front {
+            return Err(SystemFault::TermsFull);
+        }
+        let kept = self.worth(terms);
+        self.store.add_combination(n, terms, kept);
+        Ok(Variable::Combination((front + n) as u32))
+    }
+
+    fn enforce_constraint(
+        &mut self,
+        a: &[Term],
+        b: &[Term],
+        c: &[Term],
+    ) -> Result<(), SystemFault> {
+        let (la, lb, lc) = self.sizes(a, b, c)?;
+        if self.store.count >= self.store.row_room {
+            return Err(SystemFault::RowsFull);
+        }
+        self.store.add_row(a, b, c, la, lb, lc);
+        Ok(())
+    }
+
+    fn admits(&self, a: &[Term], b: &[Term], c: &[Term]) -> Result<(), SystemFault> {
+        self.sizes(a, b, c).map(|_| ())
+    }
+
+    fn value(&self, variable: Variable) -> Result<Option<F>, SystemFault> {
+        if !self.has(variable) {
+            return Err(SystemFault::UnknownVariable);
+        }
+        match variable {
+            Variable::One => Ok(Some(F::one())),
+            _ => Ok(Some(F::from_number(self.word(variable)))),
+        }
+    }
+
+    fn mark(&self) -> Mark {
+        Mark {
+            inputs: self.store.inputs as u32,
+            witnesses: self.store.witnesses as u32,
+            combinations: self.store.combinations as u32,
+            rows: self.store.count as u32,
+        }
+    }
+
+    fn keep(&mut self, mark: Mark) {
+        let Mark {
+            inputs: _,
+            witnesses: _,
+            combinations: _,
+            rows: _,
+        } = mark;
+    }
+
+    fn rewind(&mut self, mark: Mark) -> Result<(), SystemFault> {
+        let Mark {
+            inputs,
+            witnesses,
+            combinations,
+            rows,
+        } = mark;
+        let to = Counts {
+            inputs: inputs as usize,
+            witnesses: witnesses as usize,
+            combinations: combinations as usize,
+            rows: rows as usize,
+        };
+        let Ends { front, back } = self.cut(to)?;
+        self.store.inputs = to.inputs;
+        self.store.witnesses = to.witnesses;
+        self.store.combinations = to.combinations;
+        self.store.count = to.rows;
+        self.store.front = front;
+        self.store.back = back;
+        Ok(())
+    }
+}

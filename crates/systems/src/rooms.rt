@@ -1,0 +1,109 @@
+ghost use Rattle.std.specs.Prelude.{◌≡◌, length, Some as some, MatchResult};
+ghost use Rattle.systems.specs.Opening.{of_opening, opening, Opened};
+
+use crate::store::Store;
+use crate::valued::Valued;
+use field::Field;
+use relations::Refusal;
+use std::marker::PhantomData;
+
+/// How much of each a system takes.
+#[derive(Clone, Copy)]
+pub struct Rooms {
+    pub inputs: u32,
+    pub witnesses: u32,
+    pub terms: u32,
+    pub rows: u32,
+}
+
+/// How much of each a system holds.
+#[derive(Clone, Copy)]
+pub struct Counts {
+    pub inputs: usize,
+    pub witnesses: usize,
+    pub combinations: usize,
+    pub rows: usize,
+}
+
+/// Why a system is not opened: a room is above 65,536, or the lent words are too few for the rooms.
+#[derive(Clone, Copy)]
+pub enum OpenFault {
+    RoomTooLarge,
+    ShortValues,
+    ShortTerms,
+    ShortRows,
+}
+
+/// Why one of the sums of a row is not written out: there is no such row, or too few words to write it into.
+#[derive(Clone, Copy)]
+pub enum OutlineFault {
+    NoSuchRow,
+    TooShort,
+}
+
+impl From<OpenFault> for Refusal {
+    ghost from_gives = { λ f r. r ≡ of_opening f };
+
+    fn from(fault: OpenFault) -> Refusal {
+        let (number, layer) = match fault {
+            OpenFault::RoomTooLarge => (3, 3),
+            OpenFault::ShortValues => (8, 3),
+            OpenFault::ShortTerms => (9, 3),
+            OpenFault::ShortRows => (10, 3),
+        };
+        Refusal { number, layer }
+    }
+}
+
+/// Opens an empty system over lent words, if no room is above 65,536 and the words are enough for the rooms.
+pub fn open<'a, F: Field>(
+    rooms: Rooms,
+    values: &'a mut [u32],
+    terms: &'a mut [u32],
+    rows: &'a mut [u32],
+) -> Result<Valued<'a, F>, OpenFault>
+    ensures { MatchResult result (Opened F.Field.modulus rooms values.old terms.old rows.old) (λ e. opening rooms (length values.old) (length terms.old) (length rows.old) ≡ some e) }
+{
+    if rooms.inputs > 65536
+        || rooms.witnesses > 65536
+        || rooms.terms > 65536
+        || rooms.rows > 65536
+    {
+        return Err(OpenFault::RoomTooLarge);
+    }
+    let (input_room, witness_room, term_room, row_room) = (
+        rooms.inputs as usize,
+        rooms.witnesses as usize,
+        rooms.terms as usize,
+        rooms.rows as usize,
+    );
+    if values.len() < input_room + witness_room {
+        return Err(OpenFault::ShortValues);
+    }
+    if terms.len() < 2 * term_room {
+        return Err(OpenFault::ShortTerms);
+    }
+    if rows.len() < 6 * row_room {
+        return Err(OpenFault::ShortRows);
+    }
+    let modulus = F::characteristic();
+    Ok(Valued {
+        store: Store {
+            rows,
+            terms,
+            modulus,
+            inputs: 0,
+            witnesses: 0,
+            combinations: 0,
+            count: 0,
+            front: 0,
+            back: term_room,
+            input_room,
+            witness_room,
+            term_room,
+            row_room,
+        },
+        values,
+        of: PhantomData,
+    })
+}
