@@ -59,8 +59,7 @@ pub record Sums : Type 0 where
   pub product : List ℕ
 
 abbrev pub rows_text : ℕ → List Sums → List ℕ
-rows_text inputs [] = []
-rows_text inputs (s ∷ ss) = row_text inputs s.left s.right s.product ++ rows_text inputs ss
+rows_text inputs ss = flat_map (λ s. row_text inputs s.left s.right s.product) ss
 
 -- what is reported of a system: how many inputs and witnesses it has, its rows, and the number of the first that is not met
 pub record Page : Type 0 where

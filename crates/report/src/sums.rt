@@ -85,11 +85,9 @@ impl Display for Sum<'_> {
 pub fn push_sum(text: &mut String, coefficients: &[u32], inputs: usize) -> Result<(), AllocError>
     ensures { OnOk result (string_bytes text.new ≡ string_bytes text.old ++ sum_text inputs coefficients.now) }
 {
-    push_shown(
-        text,
-        Sum {
-            coefficients,
-            inputs,
-        },
-    )
+    let sum = Sum {
+        coefficients,
+        inputs,
+    };
+    push_shown(text, sum)
 }

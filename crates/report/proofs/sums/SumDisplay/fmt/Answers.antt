@@ -2,7 +2,7 @@ use Rattle.std.proofs.Common.{◌≡◌, ◌≢◌, ◌++◌, codes, ap, sym, �
 use Rattle.std.proofs.Output.{has_written_append, has_written_of_eq}
 use borrow.Author.Tests.{tests}
 use Rattle.report.specs.Text.{term_text, term_texts, more_terms, joined_terms}
-use Rattle.report.proofs.Steps.{left, none_left, one_left, zeros_left}
+use Rattle.report.proofs.Terms.{left, none_left, one_left, zeros_left}
 use Rattle.report.proofs.sums.SumDisplay.fmt.Goals as goal
 
 pub returns-in_default-clause-writes : goal.returns-in_default-clause-writes

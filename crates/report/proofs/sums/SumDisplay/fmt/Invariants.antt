@@ -1,7 +1,7 @@
 use Rattle.std.proofs.Common.{◌≡◌, ℕ, List, ◌++◌}
 use Rattle.std.specs.Fmt.{HasWritten, IsPlainFormatter}
 use Rattle.report.specs.Text.{sum_text, more_terms}
-use Rattle.report.proofs.Steps.{left}
+use Rattle.report.proofs.Terms.{left}
 use Rattle.report.proofs.sums.SumDisplay.fmt.Given as goal
 
 -- what is written, and what is still to be written, are together the whole
