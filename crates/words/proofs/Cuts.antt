@@ -1,9 +1,9 @@
 -- Reading lists from their ends, and cutting them.
-use Rattle.std.proofs.Common.{◌≡◌, ℕ, zero, suc, ◌+◌, ◌-◌, ◌*◌, ◌/◌, ◌%◌, ◌<◌, ◌≤◌, Bool, true, false, cond, ◌&&◌, eqb, ltb, List, [], ◌∷◌, ◌++◌, map, get_or, take, sym, refl, ap, ◌∙◌, subst, inl, inr, eq-or-lt_of_le, arith, ltb-true, lt-ltb}
+use Rattle.std.proofs.Common.{◌≡◌, ℕ, zero, suc, ◌+◌, ◌-◌, ◌*◌, ◌/◌, ◌%◌, ◌<◌, ◌≤◌, Bool, true, false, cond, ◌&&◌, eqb, ltb, List, [], ◌∷◌, ◌++◌, map, get_or, take, sym, refl, ap, ◌∙◌, subst, inl, inr, eq-or-lt_of_le, arith, ltb-true, lt-ltb, add-one, Option, None, Some, MatchOption}
 use Rattle.std.proofs.lemmas.List.{take-append-le, take_all}
 use Rattle.relations.specs.Sum.{Pairs, code_in, all_in}
 use Rattle.relations.specs.Meaning.{combos_within, rows_within}
-use Rattle.words.specs.Words.{pairs, Kept, combination, combo, heading, combinations, Chain, Tagged, Triple, row_at, rows, floor, Stack, meant, lists_in, triple_in, triples_in}
+use Rattle.words.specs.Words.{pairs, Kept, combination, combo, heading, combinations, Chain, Tagged, TakenOff, Triple, row_at, rows, floor, Stack, meant, lists_in, triple_in, triples_in}
 use Rattle.words.proofs.Areas.{combinations_length, rows_length, floor_below}
 
 -- the test of a list by its last
@@ -76,17 +76,19 @@ take_down k left end ws xs h c e =
 pub take_here : (k left end : ℕ) (ws : List ℕ) (xs : List Kept) → k ≡ left → xs ≡ take k (combinations left end ws) → xs ≡ combinations k end ws
 take_here k left end ws xs q e = e ∙ ap (λ (x : ℕ). take k (combinations x end ws)) (sym q) ∙ take_all k (combinations k end ws) (omega (arith, combinations_length k end ws))
 
-pub lists_kept : (ni nw ne left end : ℕ) (ws : List ℕ) (b : Bool) → 0 < left → Chain left end ws → true ≡ all_in ni nw ne (pairs (end - 1 - heading end ws) (heading end ws) ws) → lists_in ni nw ne (combinations left end ws) ≡ b → lists_in ni nw ne (combinations (left - 1) (end - 1 - heading end ws) ws) ≡ b
-lists_kept ni nw ne left end ws b h c t inv =
-    sym (and_true _) ∙ ap (λ (x : Bool). lists_in ni nw ne (combinations (left - 1) (end - 1 - heading end ws) ws) && x) (t ∙ sym (and_true _))
-    ∙ sym (lists_in_append ni nw ne (combinations (left - 1) (end - 1 - heading end ws) ws) (combination (end - 1 - heading end ws) (heading end ws) ws ∷ []))
-    ∙ ap (lists_in ni nw ne) (sym (last left end ws h c).split) ∙ inv
+taken_lists : (ni nw ne left end : ℕ) (ws : List ℕ) (left' end' : ℕ) (ws' : List ℕ) (place : ℕ) (ts : Pairs) → Chain left end ws → TakenOff left end ws left' end' ws' place ts → lists_in ni nw ne (combinations left end ws) ≡ lists_in ni nw ne (combinations left' end' ws') && all_in ni nw ne ts
+taken_lists ni nw ne left end ws left' end' ws' place ts c t =
+    ap (lists_in ni nw ne) (last left end ws t.some c).split
+    ∙ lists_in_append ni nw ne (combinations (left - 1) (end - 1 - heading end ws) ws) (combination (end - 1 - heading end ws) (heading end ws) ws ∷ [])
+    ∙ (λ i. lists_in ni nw ne (combinations (sym t.fewer i) (sym t.lower i) (sym t.same i)) && (and_true _ ∙ ap (all_in ni nw ne) (sym t.terms)) i)
 
-pub lists_fail : (ni nw ne left end : ℕ) (ws : List ℕ) (b : Bool) → 0 < left → Chain left end ws → false ≡ all_in ni nw ne (pairs (end - 1 - heading end ws) (heading end ws) ws) → lists_in ni nw ne (combinations left end ws) ≡ b → false ≡ b
-lists_fail ni nw ne left end ws b h c t inv =
-    sym (and_false _) ∙ ap (λ (x : Bool). lists_in ni nw ne (combinations (left - 1) (end - 1 - heading end ws) ws) && x) (t ∙ sym (and_true _))
-    ∙ sym (lists_in_append ni nw ne (combinations (left - 1) (end - 1 - heading end ws) ws) (combination (end - 1 - heading end ws) (heading end ws) ws ∷ []))
-    ∙ ap (lists_in ni nw ne) (sym (last left end ws h c).split) ∙ inv
+pub lists_kept : (ni nw ne left end : ℕ) (ws : List ℕ) (left' end' : ℕ) (ws' : List ℕ) (place : ℕ) (ts : Pairs) (b : Bool) → Chain left end ws → TakenOff left end ws left' end' ws' place ts → true ≡ all_in ni nw ne ts → lists_in ni nw ne (combinations left end ws) ≡ b → lists_in ni nw ne (combinations left' end' ws') ≡ b
+lists_kept ni nw ne left end ws left' end' ws' place ts b c t h inv =
+    sym (taken_lists ni nw ne left end ws left' end' ws' place ts c t ∙ ap (λ (x : Bool). lists_in ni nw ne (combinations left' end' ws') && x) (sym h) ∙ and_true _) ∙ inv
+
+pub lists_fail : (ni nw ne left end : ℕ) (ws : List ℕ) (left' end' : ℕ) (ws' : List ℕ) (place : ℕ) (ts : Pairs) (b : Bool) → Chain left end ws → TakenOff left end ws left' end' ws' place ts → false ≡ all_in ni nw ne ts → lists_in ni nw ne (combinations left end ws) ≡ b → false ≡ b
+lists_fail ni nw ne left end ws left' end' ws' place ts b c t h inv =
+    sym (taken_lists ni nw ne left end ws left' end' ws' place ts c t ∙ ap (λ (x : Bool). lists_in ni nw ne (combinations left' end' ws') && x) (sym h) ∙ and_false _) ∙ inv
 
 -- rows
 pub rows_last : (ni nw ne r : ℕ) (rs ws : List ℕ) → triples_in ni nw ne (rows (suc r) rs ws) ≡ triples_in ni nw ne (rows r rs ws) && triple_in ni nw ne (row_at r rs ws)
@@ -136,16 +138,6 @@ lies top i n rs h s =
     let k : Stack top (suc i) rs = stack_take top (suc i) n rs (omega arith) s in
     record { a = omega (arith, k.0.a, floor_below top i rs k.1); b = omega (arith, k.0.a, k.0.b, floor_below top i rs k.1); c = omega (arith, k.0.a, k.0.b, k.0.c, floor_below top i rs k.1) }
 
-pub rows_kept : (ni nw ne i m : ℕ) (rs ws : List ℕ) (b : Bool) → 0 < i → m ≡ i - 1 → true ≡ triple_in ni nw ne (row_at m rs ws) → triples_in ni nw ne (rows i rs ws) ≡ b → triples_in ni nw ne (rows m rs ws) ≡ b
-rows_kept ni nw ne i m rs ws b h e t inv =
-    let q : suc m ≡ i = omega arith in
-    sym (and_true _) ∙ ap (λ (x : Bool). triples_in ni nw ne (rows m rs ws) && x) t ∙ sym (rows_last ni nw ne m rs ws) ∙ ap (λ (x : ℕ). triples_in ni nw ne (rows x rs ws)) q ∙ inv
-
-pub rows_fail : (ni nw ne i m : ℕ) (rs ws : List ℕ) (b : Bool) → 0 < i → m ≡ i - 1 → false ≡ triple_in ni nw ne (row_at m rs ws) → triples_in ni nw ne (rows i rs ws) ≡ b → false ≡ b
-rows_fail ni nw ne i m rs ws b h e t inv =
-    let q : suc m ≡ i = omega arith in
-    sym (and_false _) ∙ ap (λ (x : Bool). triples_in ni nw ne (rows m rs ws) && x) t ∙ sym (rows_last ni nw ne m rs ws) ∙ ap (λ (x : ℕ). triples_in ni nw ne (rows x rs ws)) q ∙ inv
-
 -- one combination down, with the length that was read
 pub record CutTo (k lcs left end front : ℕ) (ws : List ℕ) : Type 0 where
   pub more : k ≤ left
@@ -161,27 +153,21 @@ tagged_down : (p k end : ℕ) (ws : List ℕ) → 0 < k → Tagged p k end ws �
 tagged_down p zero end ws h t = absurd (omega arith)
 tagged_down p (suc k) end ws h t = subst (λ (x : ℕ). Tagged p x (end - 1 - heading end ws) ws) (sym (less k)) t.1
 
-pub take_step : (k lcs left end l front : ℕ) (ws : List ℕ) → k < left → l ≡ heading end ws → CutTo k lcs left end front ws → CutTo k lcs (left - 1) (end - 1 - l) front ws
-take_step k lcs left end l front ws h e inv =
-    subst (λ (x : ℕ). CutTo k lcs (left - 1) (end - 1 - x) front ws) (sym e) record {
+pub take_step : {A B : Type 0} (k lcs left end front left' end' : ℕ) (ws vs ws' : List ℕ) (r : Option A) (b b' : B) (at : A → ℕ) (ts : A → Pairs) → k < left → ws ≡ vs → MatchOption r ((left ≡ 0) × (b' ≡ b)) (λ x. TakenOff left end ws left' end' ws' (at x) (ts x)) → CutTo k lcs left end front vs → (ws' ≡ vs) × CutTo k lcs left' end' front vs
+take_step k lcs left end front left' end' ws vs ws' None b b' at ts h q m inv = absurd (omega (arith, m.0))
+take_step k lcs left end front left' end' ws vs ws' (Some x) b b' at ts h q m inv = (m.same ∙ q, down)
+  where
+    lower : end - 1 - heading end vs ≡ end'
+    lower = ap (λ (us : List ℕ). end - 1 - heading end us) (sym q) ∙ sym m.lower
+
+    down : CutTo k lcs left' end' front vs
+    down = subst (λ (y : ℕ). CutTo k lcs y end' front vs) (sym m.fewer) (subst (λ (y : ℕ). CutTo k lcs (left - 1) y front vs) lower record {
       more = omega arith;
       low = omega (arith, inv.low);
-      chain = (last left end ws (omega arith) inv.chain).chain;
-      cut = take_down k left end ws _ h inv.chain inv.cut;
-      tagged = λ p t. tagged_down p left end ws (omega arith) (inv.tagged p t);
-    }
-
-abbrev pub Seen : ℕ → ℕ → ℕ → ℕ → ℕ → ℕ → List ℕ → Bool → Type 0
-Seen ni nw ne left at end ws b = (at ≤ end) × Chain left at ws × (lists_in ni nw ne (combinations left at ws) ≡ b)
-
-pub seen_step : (ni nw ne left at end l : ℕ) (ws : List ℕ) (b : Bool) → 0 < left → l ≡ heading at ws → true ≡ all_in ni nw ne (pairs (at - 1 - l) l ws) → Seen ni nw ne left at end ws b → Seen ni nw ne (left - 1) (at - 1 - l) end ws b
-seen_step ni nw ne left at end l ws b h e t inv =
-    subst (λ (x : ℕ). Seen ni nw ne (left - 1) (at - 1 - x) end ws b) (sym e)
-    (omega (arith, inv.0), (last left at ws h inv.1).chain, lists_kept ni nw ne left at ws b h inv.1 (t ∙ ap (λ (x : ℕ). all_in ni nw ne (pairs (at - 1 - x) x ws)) e) inv.2)
-
-pub seen_fail : (ni nw ne left at end l : ℕ) (ws : List ℕ) (b : Bool) → 0 < left → l ≡ heading at ws → false ≡ all_in ni nw ne (pairs (at - 1 - l) l ws) → Seen ni nw ne left at end ws b → false ≡ b
-seen_fail ni nw ne left at end l ws b h e t inv =
-    lists_fail ni nw ne left at ws b h inv.1 (t ∙ ap (λ (x : ℕ). all_in ni nw ne (pairs (at - 1 - x) x ws)) e) inv.2
+      chain = (last left end vs (omega arith) inv.chain).chain;
+      cut = take_down k left end vs _ h inv.chain inv.cut;
+      tagged = λ p t. tagged_down p left end vs (omega arith) (inv.tagged p t);
+    })
 
 -- the meaning's tests are those of the stored lists
 pub combos_are : (p ni nw ne : ℕ) (xs : List Kept) → combos_within ni nw ne (map (combo p) xs) ≡ lists_in ni nw ne xs
@@ -214,6 +200,20 @@ row_each ni nw ne (suc n) j rs ws h e =
       | inl f ↦ ap (λ (x : ℕ). triple_in ni nw ne (row_at x rs ws)) f ∙ q.1
       | inr g ↦ row_each ni nw ne n j rs ws g q.0
     ]
+
+-- the first rows, from the first on
+pub rows_more : (ni nw ne i : ℕ) (rs ws : List ℕ) (t : Triple) → t ≡ row_at i rs ws → true ≡ triple_in ni nw ne t → triples_in ni nw ne (rows i rs ws) ≡ true → triples_in ni nw ne (rows (i + 1) rs ws) ≡ true
+rows_more ni nw ne i rs ws t e h inv =
+    ap (λ (x : ℕ). triples_in ni nw ne (rows x rs ws)) (add-one i)
+    ∙ rows_last ni nw ne i rs ws
+    ∙ (λ j. inv j && (ap (triple_in ni nw ne) (sym e) ∙ sym h) j)
+
+pub rows_stop : (ni nw ne i r : ℕ) (rs ws : List ℕ) (t : Triple) → i < r → t ≡ row_at i rs ws → false ≡ triple_in ni nw ne t → false ≡ triples_in ni nw ne (rows r rs ws)
+rows_stop ni nw ne i r rs ws t h e f = go (triples_in ni nw ne (rows r rs ws)) (λ q. f ∙ ap (triple_in ni nw ne) e ∙ row_each ni nw ne r i rs ws h q)
+  where
+    go : (b : Bool) → (b ≡ true → false ≡ true) → false ≡ b
+    go false g = refl
+    go true g = g refl
 
 pub triple_each : (ni nw ne : ℕ) (t : Triple) → triple_in ni nw ne t ≡ true → (all_in ni nw ne t.a ≡ true) × (all_in ni nw ne t.b ≡ true) × (all_in ni nw ne t.c ≡ true)
 triple_each ni nw ne t e = let x = both _ _ e in let y = both _ _ x.1 in (x.0, y.0, y.1)

@@ -55,6 +55,9 @@ pub record Put (place c k : ℕ) (ws vs : List ℕ) : Type 0 where
   pub below : (j : ℕ) → j < 2 * place → get_or vs j 0 ≡ get_or ws j 0
   pub above : (j : ℕ) → 2 * place + 2 ≤ j → get_or vs j 0 ≡ get_or ws j 0
 
+pub put_at : (place c d k : ℕ) (ws vs : List ℕ) → c ≡ d → Put place c k ws vs → Put place d k ws vs
+put_at place c d k ws vs e h = subst (λ (x : ℕ). Put place x k ws vs) e h
+
 pub put_says : (place c k : ℕ) (ws vs : List ℕ) → 2 * place + 1 < length ws → vs ≡ set (set ws (2 * place) c) (2 * place + 1) k → Put place c k ws vs
 put_says place c k ws vs h e = subst (Put place c k ws) (sym e) record {
   first = get_or-set_other (set ws (2 * place) c) (2 * place + 1) (2 * place) k 0 (λ q. omega arith) ∙ get_or-set_same ws (2 * place) c 0 (omega arith);

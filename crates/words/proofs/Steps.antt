@@ -1,15 +1,9 @@
 -- One step on through the handed terms.
-use Rattle.std.proofs.Common.{◌≡◌, ℕ, ◌+◌, ◌%◌, ◌<◌, ◌≤◌, Bool, true, false, cond, ◌&&◌, eqb, List, ◌∷◌, length, get_or, drop, sym, ap, ◌∙◌, subst, arith, eq-eqb, ne_eqb}
-use Rattle.std.proofs.lemmas.List.{at_drop_more, at_drop_all}
+use Rattle.std.proofs.Common.{◌≡◌, ℕ, ◌+◌, ◌%◌, ◌<◌, Bool, true, false, cond, eqb, ◌||◌, refl, List, [], ◌∷◌, length, get_or, drop, sym, ap, ◌∙◌, eq-eqb, ne_eqb}
+use Rattle.std.specs.List.{list_any}
+use Rattle.std.proofs.lemmas.List.{at_drop_more}
 use Rattle.relations.specs.declared.term.Term.{Term}
 use Rattle.relations.specs.Sum.{code, counted, handed, Pairs, total, named, weight, merged}
-use Rattle.words.specs.Words.{there, all_there, Small}
-
-pub there_more : (i w e : ℕ) (ws : List ℕ) (ts : List Term) (j : ℕ) (d : Term) → j < length ts → true ≡ there i w e ws (get_or ts j d).variable → all_there i w e ws (drop j ts) ≡ all_there i w e ws (drop (j + 1) ts)
-there_more i w e ws ts j d h q = at_drop_more (all_there i w e ws) ts j d h ∙ ap (λ (b : Bool). b && all_there i w e ws (drop (j + 1) ts)) (sym q)
-
-pub there_stop : (i w e : ℕ) (ws : List ℕ) (ts : List Term) (j : ℕ) (d : Term) → j < length ts → false ≡ there i w e ws (get_or ts j d).variable → all_there i w e ws (drop j ts) ≡ false
-there_stop i w e ws ts j d h q = at_drop_more (all_there i w e ws) ts j d h ∙ ap (λ (b : Bool). b && all_there i w e ws (drop (j + 1) ts)) (sym q)
 
 pub total_same : (p a : ℕ) (ts : List Term) (i : ℕ) (d : Term) (c k : ℕ) → i < length ts → code (get_or ts i d).variable ≡ c → k ≡ counted (get_or ts i d).variable (get_or ts i d).coefficient → total p a (handed (drop i ts)) c ≡ total p ((a + k) % p) (handed (drop (i + 1) ts)) c
 total_same p a ts i d c k h e q =
@@ -22,36 +16,27 @@ total_other p a ts i d c h e =
     at_drop_more (λ (xs : List Term). total p a (handed xs) c) ts i d h
     ∙ ap (λ (b : Bool). total p (cond b ((a + counted (get_or ts i d).variable (get_or ts i d).coefficient) % p) a) (handed (drop (i + 1) ts)) c) (ne_eqb _ _ e)
 
-pub named_same : (ts : List Term) (i : ℕ) (d : Term) (c : ℕ) → i < length ts → code (get_or ts i d).variable ≡ c → named c (handed (drop i ts)) ≡ true
-named_same ts i d c h e =
-    at_drop_more (λ (xs : List Term). named c (handed xs)) ts i d h
-    ∙ ap (λ (b : Bool). cond b true (named c (handed (drop (i + 1) ts)))) (eq-eqb _ _ e)
+pub named_each : (ts : List Term) (c : ℕ) → list_any (λ t. eqb (code t.variable) c) ts ≡ named c (handed ts)
+named_each [] c = refl
+named_each (t ∷ ts) c = go (eqb (code t.variable) c) (named_each ts c)
+  where
+    go : (b : Bool) {x y : Bool} → x ≡ y → b || x ≡ cond b true y
+    go true e = refl
+    go false e = e
 
-pub named_other : (ts : List Term) (i : ℕ) (d : Term) (c : ℕ) → i < length ts → (code (get_or ts i d).variable ≡ c → ⊥) → named c (handed (drop i ts)) ≡ named c (handed (drop (i + 1) ts))
-named_other ts i d c h e =
-    at_drop_more (λ (xs : List Term). named c (handed xs)) ts i d h
-    ∙ ap (λ (b : Bool). cond b true (named c (handed (drop (i + 1) ts)))) (ne_eqb _ _ e)
+-- the weight of the first of the terms that are left: what is merged from it on
+merged_first : (p c : ℕ) (all : Pairs) (rest after : List Term) (t : Term) → rest ≡ t ∷ after → c ≡ code t.variable → merged p all (handed rest) ≡ cond {A = Pairs} (eqb (weight p all c (handed after)) 0) (merged p all (handed after)) ((c, weight p all c (handed after)) ∷ merged p all (handed after))
+merged_first p c all rest after t q ce =
+    ap (λ (xs : List Term). merged p all (handed xs)) q
+    ∙ ap (λ (x : ℕ). cond {A = Pairs} (eqb (weight p all x (handed after)) 0) (merged p all (handed after)) ((x, weight p all x (handed after)) ∷ merged p all (handed after))) (sym ce)
 
-pub named_end : (ts : List Term) (i c : ℕ) → length ts ≤ i → named c (handed (drop i ts)) ≡ false
-named_end ts i c h = at_drop_all (λ (xs : List Term). named c (handed xs)) ts i h
+pub merged_none : (p c k : ℕ) (all : Pairs) (rest after : List Term) (t : Term) → rest ≡ t ∷ after → c ≡ code t.variable → k ≡ weight p all c (handed after) → k ≡ 0 → merged p all (handed rest) ≡ merged p all (handed after)
+merged_none p c k all rest after t q ce e z =
+    merged_first p c all rest after t q ce
+    ∙ ap (λ (b : Bool). cond {A = Pairs} b (merged p all (handed after)) ((c, weight p all c (handed after)) ∷ merged p all (handed after))) (eq-eqb _ _ (sym e ∙ z))
 
--- the weight at i: what is merged from i on
-pub merged_none : (p : ℕ) (all : Pairs) (ts : List Term) (i : ℕ) (d : Term) → i < length ts → weight p all (code (get_or ts i d).variable) (handed (drop (i + 1) ts)) ≡ 0 → merged p all (handed (drop i ts)) ≡ merged p all (handed (drop (i + 1) ts))
-merged_none p all ts i d h e =
-    at_drop_more (λ (xs : List Term). merged p all (handed xs)) ts i d h
-    ∙ ap (λ (b : Bool). cond b (merged p all (handed (drop (i + 1) ts))) ((code (get_or ts i d).variable, weight p all (code (get_or ts i d).variable) (handed (drop (i + 1) ts))) ∷ merged p all (handed (drop (i + 1) ts)))) (eq-eqb _ _ e)
-
-pub merged_some : (p : ℕ) (all : Pairs) (ts : List Term) (i : ℕ) (d : Term) (k : ℕ) → i < length ts → k ≡ weight p all (code (get_or ts i d).variable) (handed (drop (i + 1) ts)) → (k ≡ 0 → ⊥) → merged p all (handed (drop i ts)) ≡ (code (get_or ts i d).variable, k) ∷ merged p all (handed (drop (i + 1) ts))
-merged_some p all ts i d k h e ne =
-    at_drop_more (λ (xs : List Term). merged p all (handed xs)) ts i d h
-    ∙ ap (λ (w : ℕ). cond (eqb w 0) (merged p all (handed (drop (i + 1) ts))) ((code (get_or ts i d).variable, w) ∷ merged p all (handed (drop (i + 1) ts)))) (sym e)
-    ∙ ap (λ (b : Bool). cond b (merged p all (handed (drop (i + 1) ts))) ((code (get_or ts i d).variable, k) ∷ merged p all (handed (drop (i + 1) ts)))) (ne_eqb _ _ ne)
-
-pub small_split : (ts : List Term) (i : ℕ) (d : Term) → i < length ts → Small (drop i ts) → (code (get_or ts i d).variable < 4294967296) × Small (drop (i + 1) ts)
-small_split ts i d h s = subst Small (at_drop_more (λ (xs : List Term). xs) ts i d h) s
-
-pub count_none : (p : ℕ) (all : Pairs) (ts : List Term) (i : ℕ) (d : Term) (n n' m : ℕ) → i < length ts → weight p all (code (get_or ts i d).variable) (handed (drop (i + 1) ts)) ≡ 0 → n' ≡ n → n + length (merged p all (handed (drop i ts))) ≡ m → n' + length (merged p all (handed (drop (i + 1) ts))) ≡ m
-count_none p all ts i d n n' m h e q inv = omega (arith, ap length (merged_none p all ts i d h e))
-
-pub count_some : (p : ℕ) (all : Pairs) (ts : List Term) (i : ℕ) (d : Term) (k n n' m : ℕ) → i < length ts → k ≡ weight p all (code (get_or ts i d).variable) (handed (drop (i + 1) ts)) → (k ≡ 0 → ⊥) → n' ≡ n + 1 → n + length (merged p all (handed (drop i ts))) ≡ m → n' + length (merged p all (handed (drop (i + 1) ts))) ≡ m
-count_some p all ts i d k n n' m h e ne q inv = omega (arith, ap length (merged_some p all ts i d k h e ne))
+pub merged_some : (p c k : ℕ) (all : Pairs) (rest after : List Term) (t : Term) → rest ≡ t ∷ after → c ≡ code t.variable → k ≡ weight p all c (handed after) → (k ≡ 0 → ⊥) → merged p all (handed rest) ≡ (c, k) ∷ merged p all (handed after)
+merged_some p c k all rest after t q ce e ne =
+    merged_first p c all rest after t q ce
+    ∙ ap (λ (w : ℕ). cond {A = Pairs} (eqb w 0) (merged p all (handed after)) ((c, w) ∷ merged p all (handed after))) (sym e)
+    ∙ ap (λ (b : Bool). cond {A = Pairs} b (merged p all (handed after)) ((c, k) ∷ merged p all (handed after))) (ne_eqb _ _ ne)

@@ -1,29 +1,68 @@
--- The value of terms under kept words, from the last term down.
-use Rattle.std.proofs.Common.{◌≡◌, ℕ, zero, suc, ◌+◌, ◌-◌, ◌*◌, ◌%◌, ◌<◌, ◌≤◌, Bool, true, false, ◌&&◌, List, [], ◌∷◌, ◌++◌, length, get_or, drop, sym, refl, ap, ◌∙◌, arith}
-use Rattle.std.proofs.lemmas.List.{at_drop_more, at_drop_all}
+-- The value of terms under kept words, from the last term down, and stored terms as arrays of two words.
+use Rattle.std.proofs.Common.{◌≡◌, ℕ, zero, suc, ◌+◌, ◌*◌, ◌%◌, ◌<◌, Bool, true, ◌&&◌, List, [], ◌∷◌, ◌++◌, get_or, take, drop, sym, refl, ap, ◌∙◌, subst, arith}
+use Rattle.std.specs.List.{list_all}
+use Rattle.std.specs.Simd.{first_chunks}
+use Rattle.std.proofs.lemmas.List.{get_or-take, get_or-drop}
 use Rattle.relations.specs.declared.term.Term.{Term}
-use Rattle.relations.specs.Sum.{Pairs, code, decode, counted, handed, code_in, all_in}
-use Rattle.words.specs.Words.{pairs, word_of, worth}
+use Rattle.relations.specs.Sum.{Pairs, code, decode, counted, handed, code_in, all_in, value}
+use Rattle.words.specs.Words.{pairs, stored, there, all_there, word_of, worth}
+use Rattle.words.proofs.Cuts.{both, and_true, all_in_append}
 
-both : (a b : Bool) → a && b ≡ true → (a ≡ true) × (b ≡ true)
-both true b e = (refl, e)
-both false b e = let z : ◌≡◌ {A = ℕ} 0 1 = cc in absurd (omega arith)
+-- the value of terms, onto a sum that stands for those after them
+abbrev pub onto : ℕ → (ℕ → ℕ) → ℕ → Pairs → ℕ
+onto p a s [] = s
+onto p a s (t ∷ ts) = (t.1 * a t.0 + onto p a s ts) % p
 
-pub handed_each : (i w e : ℕ) (ts : List Term) (j : ℕ) (d : Term) → j < length ts → all_in i w e (handed ts) ≡ true → code_in i w e (code (get_or ts j d).variable) ≡ true
-handed_each i w e [] j d h q = absurd (omega arith)
-handed_each i w e (t ∷ ts) zero d h q = (both _ _ q).0
-handed_each i w e (t ∷ ts) (suc j) d h q = handed_each i w e ts j d (omega arith) (both _ _ q).1
+onto_none : (p : ℕ) (a : ℕ → ℕ) (ts : Pairs) → onto p a 0 ts ≡ value p a ts
+onto_none p a [] = refl
+onto_none p a (t ∷ ts) = ap (λ (x : ℕ). (t.1 * a t.0 + x) % p) (onto_none p a ts)
 
-pub handed_start : (p r : ℕ) (vs ws : List ℕ) (ts : List Term) (n : ℕ) → length ts ≤ n → 0 ≡ worth p r vs ws (handed (drop n ts))
-handed_start p r vs ws ts n h = sym (at_drop_all (λ (xs : List Term). worth p r vs ws (handed xs)) ts n h)
+onto_last : (p : ℕ) (a : ℕ → ℕ) (s : ℕ) (xs : Pairs) (t : ℕ × ℕ) → onto p a s (xs ++ (t ∷ [])) ≡ onto p a ((t.1 * a t.0 + s) % p) xs
+onto_last p a s [] t = refl
+onto_last p a s (x ∷ xs) t = ap (λ (y : ℕ). (x.1 * a x.0 + y) % p) (onto_last p a s xs t)
 
--- one term more: from place m + 1 = n down to m
-pub handed_step : (p r : ℕ) (vs ws : List ℕ) (ts : List Term) (m n : ℕ) (d : Term) (c k x s : ℕ) → m < length ts → n ≡ m + 1 → c ≡ code (get_or ts m d).variable → k ≡ counted (get_or ts m d).variable (get_or ts m d).coefficient → x ≡ word_of r vs ws (decode c) → s ≡ worth p r vs ws (handed (drop n ts)) → (k * x + s) % p ≡ worth p r vs ws (handed (drop m ts))
-handed_step p r vs ws ts m n d c k x s h e ce ke xe se =
-    sym (at_drop_more (λ (xs : List Term). worth p r vs ws (handed xs)) ts m d h
-    ∙ (λ i. (sym ke i * sym (xe ∙ ap (λ (y : ℕ). word_of r vs ws (decode y)) ce) i + sym (se ∙ ap (λ (y : ℕ). worth p r vs ws (handed (drop y ts))) e) i) % p))
+-- the terms `rest` are still to be added to the sum, before those that were, and all of them are named
+pub record Adding (p r i w e s : ℕ) (vs ws : List ℕ) (rest all : Pairs) : Type 0 where
+  pub named : all_in i w e rest ≡ true
+  pub sums : onto p (λ c. word_of r vs ws (decode c)) s rest ≡ worth p r vs ws all
 
-pub pairs_first : (i n : ℕ) (ws : List ℕ) → pairs i (suc n) ws ≡ (get_or ws (2 * i) 0, get_or ws (2 * i + 1) 0) ∷ pairs (i + 1) n ws
+pub adding_start : (p r i w e : ℕ) (vs ws : List ℕ) (rest all : Pairs) → rest ≡ all → all_in i w e all ≡ true → Adding p r i w e 0 vs ws rest all
+adding_start p r i w e vs ws rest all q h = subst (λ (xs : Pairs). Adding p r i w e 0 vs ws xs all) (sym q) record { named = h; sums = onto_none p _ all }
+
+pub adding_last : (p r i w e s : ℕ) (vs ws : List ℕ) (rest less all : Pairs) (t : ℕ × ℕ) → rest ≡ less ++ (t ∷ []) → Adding p r i w e s vs ws rest all → code_in i w e t.0 ≡ true
+adding_last p r i w e s vs ws rest less all t q h = sym (and_true _) ∙ (both _ _ (sym (all_in_append i w e less (t ∷ [])) ∙ ap (all_in i w e) (sym q) ∙ h.named)).1
+
+pub adding_step : (p r i w e s s' : ℕ) (vs ws : List ℕ) (rest less all : Pairs) (t : ℕ × ℕ) → rest ≡ less ++ (t ∷ []) → s' ≡ (t.1 * word_of r vs ws (decode t.0) + s) % p → Adding p r i w e s vs ws rest all → Adding p r i w e s' vs ws less all
+adding_step p r i w e s s' vs ws rest less all t q x h = record {
+  named = (both _ _ (sym (all_in_append i w e less (t ∷ [])) ∙ ap (all_in i w e) (sym q) ∙ h.named)).0;
+  sums = ap (λ (y : ℕ). onto p (λ c. word_of r vs ws (decode c)) y less) x
+      ∙ sym (onto_last p (λ c. word_of r vs ws (decode c)) s less t)
+      ∙ ap (onto p (λ c. word_of r vs ws (decode c)) s) (sym q) ∙ h.sums;
+}
+
+pub handed_last : (xs ys : List Term) (t : Term) → ys ≡ xs ++ (t ∷ []) → handed ys ≡ handed xs ++ ((code t.variable, counted t.variable t.coefficient) ∷ [])
+handed_last xs ys t e = ap handed e ∙ go xs
+  where
+    go : (xs : List Term) → handed (xs ++ (t ∷ [])) ≡ handed xs ++ ((code t.variable, counted t.variable t.coefficient) ∷ [])
+    go [] = refl
+    go (x ∷ xs) = ap (λ (zs : Pairs). (code x.variable, counted x.variable x.coefficient) ∷ zs) (go xs)
+
+pub stored_last : (xs ys : List (List ℕ)) (t : List ℕ) → ys ≡ xs ++ (t ∷ []) → stored ys ≡ stored xs ++ ((get_or t 0 0, get_or t 1 0) ∷ [])
+stored_last xs ys t e = ap stored e ∙ go xs
+  where
+    go : (xs : List (List ℕ)) → stored (xs ++ (t ∷ [])) ≡ stored xs ++ ((get_or t 0 0, get_or t 1 0) ∷ [])
+    go [] = refl
+    go (x ∷ xs) = ap (λ (zs : Pairs). (get_or x 0 0, get_or x 1 0) ∷ zs) (go xs)
+
+pub all_there_each : (i w e : ℕ) (ws : List ℕ) (ts : List Term) → list_all (λ t. there i w e ws t.variable) ts ≡ all_there i w e ws ts
+all_there_each i w e ws [] = refl
+all_there_each i w e ws (t ∷ ts) = ap (λ (b : Bool). there i w e ws t.variable && b) (all_there_each i w e ws ts)
+
+pub all_in_each : (i w e : ℕ) (ts : List (List ℕ)) → list_all (λ t. code_in i w e (get_or t 0 0)) ts ≡ all_in i w e (stored ts)
+all_in_each i w e [] = refl
+all_in_each i w e (t ∷ ts) = ap (λ (b : Bool). code_in i w e (get_or t 0 0) && b) (all_in_each i w e ts)
+
+pairs_first : (i n : ℕ) (ws : List ℕ) → pairs i (suc n) ws ≡ (get_or ws (2 * i) 0, get_or ws (2 * i + 1) 0) ∷ pairs (i + 1) n ws
 pairs_first i zero ws = ap (λ (x : ℕ). (get_or ws (2 * x) 0, get_or ws (2 * x + 1) 0) ∷ []) (plus_zero i)
   where
     plus_zero : (n : ℕ) → n + 0 ≡ n
@@ -35,29 +74,18 @@ pairs_first i (suc n) ws =
     shift : i + suc n ≡ i + 1 + n
     shift = omega arith
 
-pub stored_start : (p r start len n : ℕ) (vs ws : List ℕ) → len ≡ n → 0 ≡ worth p r vs ws (pairs (start + n) (len - n) ws)
-stored_start p r start len n vs ws e = ap (λ (x : ℕ). worth p r vs ws (pairs (start + n) x ws)) none
+-- words in arrays of two
+pub stored_chunks : (i n : ℕ) (xs ws : List ℕ) → ((j : ℕ) → j < 2 * n → get_or xs j 0 ≡ get_or ws (2 * i + j) 0) → stored (first_chunks 2 n xs) ≡ pairs i n ws
+stored_chunks i zero xs ws h = refl
+stored_chunks i (suc n) xs ws h =
+    (λ t. (first t, second t) ∷ stored_chunks (i + 1) n (drop 2 xs) ws (λ j l. get_or-drop 2 xs j 0 ∙ h (2 + j) (omega arith) ∙ at (2 * i + (2 + j)) (2 * (i + 1) + j) (omega arith)) t)
+    ∙ sym (pairs_first i n ws)
   where
-    none : 0 ≡ len - n
-    none = omega arith
+    at : (j k : ℕ) → j ≡ k → get_or ws j 0 ≡ get_or ws k 0
+    at j k e = ap (λ (x : ℕ). get_or ws x 0) e
 
-pub stored_step : (p r start len m n : ℕ) (vs ws : List ℕ) (c k x s : ℕ) → m < len → n ≡ m + 1 → c ≡ get_or ws (2 * (start + m)) 0 → k ≡ get_or ws (2 * (start + m) + 1) 0 → x ≡ word_of r vs ws (decode c) → s ≡ worth p r vs ws (pairs (start + n) (len - n) ws) → (k * x + s) % p ≡ worth p r vs ws (pairs (start + m) (len - m) ws)
-stored_step p r start len m n vs ws c k x s h e ce ke xe se =
-    sym (ap (λ (y : ℕ). worth p r vs ws (pairs (start + m) y ws)) long
-    ∙ ap (worth p r vs ws) (pairs_first (start + m) (len - n) ws)
-    ∙ (λ i. (sym ke i * sym (xe ∙ ap (λ (y : ℕ). word_of r vs ws (decode y)) ce) i + sym (se ∙ ap (λ (y : ℕ). worth p r vs ws (pairs y (len - n) ws)) place) i) % p))
-  where
-    long : len - m ≡ suc (len - n)
-    long = omega arith
+    first : get_or (take 2 xs) 0 0 ≡ get_or ws (2 * i) 0
+    first = get_or-take 2 xs 0 0 (omega arith) ∙ h 0 (omega arith) ∙ at (2 * i + 0) (2 * i) (omega arith)
 
-    place : start + n ≡ start + m + 1
-    place = omega arith
-
-pub stored_end : (p r start len n : ℕ) (vs ws : List ℕ) (s : ℕ) → n ≡ 0 → s ≡ worth p r vs ws (pairs (start + n) (len - n) ws) → s ≡ worth p r vs ws (pairs start len ws)
-stored_end p r start len n vs ws s z e = e ∙ (λ i. worth p r vs ws (pairs (place i) (long i) ws))
-  where
-    place : start + n ≡ start
-    place = omega arith
-
-    long : len - n ≡ len
-    long = omega arith
+    second : get_or (take 2 xs) 1 0 ≡ get_or ws (2 * i + 1) 0
+    second = get_or-take 2 xs 1 0 (omega arith) ∙ h 1 (omega arith)

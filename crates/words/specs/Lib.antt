@@ -1,2 +1,3 @@
 pub mod Words
 pub mod State
+pub mod Once

@@ -21,6 +21,11 @@ abbrev pub pairs : ℕ → ℕ → List ℕ → Pairs
 pairs i zero ws = []
 pairs i (suc n) ws = pairs i n ws ++ ((slice_index ws (2 * (i + n)), slice_index ws (2 * (i + n) + 1)) ∷ [])
 
+-- terms that are read as two words each
+abbrev pub stored : List (List ℕ) → Pairs
+stored [] = []
+stored (t ∷ ts) = (slice_index t 0, slice_index t 1) ∷ stored ts
+
 -- the sum that stored terms mean: each of them counts
 abbrev pub plain : ℕ → Pairs → Sum
 plain p ts = record { value = λ a. value p (λ c. a (decode c)) ts; at = λ v. total p 0 ts (code v); size = length ts; within = λ i w e. all_in i w e ts }
@@ -57,6 +62,15 @@ combinations (suc k) end ws = combinations k (end - 1 - heading end ws) ws ++ (c
 abbrev pub Chain : ℕ → ℕ → List ℕ → Type 0
 Chain zero end ws = end ≡ 0
 Chain (suc k) end ws = (heading end ws + 1 ≤ end) × Chain k (end - 1 - heading end ws) ws
+
+-- the newest of `left` combinations that end at a place, taken off: its heading's place, its terms, and what is left
+pub record TakenOff (left end : ℕ) (ws : List ℕ) (left' end' : ℕ) (ws' : List ℕ) (at : ℕ) (ts : Pairs) : Type 0 where
+  pub some : 0 < left
+  pub fewer : left' ≡ left - 1
+  pub lower : end' ≡ end - 1 - heading end ws
+  pub same : ws' ≡ ws
+  pub place : at ≡ end - 1
+  pub terms : ts ≡ pairs (end - 1 - heading end ws) (heading end ws) ws
 
 -- the heading right below a place has the tag 4 and a kept value below p, and no term of its combination has that tag
 pub record Head (p end : ℕ) (ws : List ℕ) : Type 0 where

@@ -1,62 +1,15 @@
-ghost use Rattle.std.specs.Prelude.{◌≡◌, ℕ, ◌+◌, ◌-◌, ◌*◌, ◌<◌, ◌≤◌, length, drop, slice_index, slice_set};
+ghost use Rattle.std.specs.Prelude.{◌≡◌, ℕ, ◌+◌, ◌-◌, ◌*◌, ◌<◌, ◌≤◌, length, slice_index, slice_set};
 ghost use Rattle.relations.specs.Sum.{handed, total, named, weight, merged};
-ghost use Rattle.words.specs.Words.{pairs, Small, PartsFit, Parts, Places, LcFits, LcWritten};
+ghost use Rattle.words.specs.Words.{pairs, whole, Small, PartsFit, Parts, Places, LcFits, LcWritten};
 
 use crate::read;
 use relations::Term;
 
-/// The sum modulo p of the coefficients of the variable with the code c.
-pub fn coefficient(p: u32, ts: &[Term], c: u64) -> u32
-    requires { 0 < p }
-    ensures { result ≡ total p 0 (handed ts.now) c }
+/// Whether a term names the variable with the code c.
+pub fn is_named(ts: &[Term], c: u64) -> bool
+    ensures { result ≡ named c (handed ts.now) }
 {
-    let mut a: u32 = 0;
-    for t in ts {
-        if read::code_of(t.variable) == c {
-            let k = read::counted_at(*t);
-            a = ((a as u64 + k as u64) % p as u64) as u32;
-        }
-    }
-    a
-}
-
-/// Whether a term from `from` on names the variable with the code c.
-pub fn is_named(ts: &[Term], from: usize, c: u64) -> bool
-    requires { from ≤ length ts.now }
-    ensures { result ≡ named c (handed (drop from ts.now)) }
-{
-    for i in from..ts.len() {
-        if read::code_of(ts[i].variable) == c {
-            return true;
-        }
-    }
-    false
-}
-
-/// What the term at i counts: its variable's whole coefficient, if it is the last to name it, and else nothing.
-pub fn weight_at(p: u32, ts: &[Term], i: usize, c: u64) -> u32
-    requires { (0 < p) × (i < length ts.now) }
-    ensures { result ≡ weight p (handed ts.now) c (handed (drop (i + 1) ts.now)) }
-{
-    if is_named(ts, i + 1, c) {
-        0
-    } else {
-        coefficient(p, ts, c)
-    }
-}
-
-/// How many different variables have a nonzero coefficient.
-pub fn merged_len(p: u32, ts: &[Term]) -> usize
-    requires { 0 < p }
-    ensures { result ≡ length (merged p (handed ts.now) (handed ts.now)) }
-{
-    let mut n: usize = 0;
-    for i in 0..ts.len() {
-        if weight_at(p, ts, i, read::code_of(ts[i].variable)) != 0 {
-            n += 1;
-        }
-    }
-    n
+    ts.iter().any(|t| read::code_of(t.variable) == c)
 }
 
 /// Writes one term, which is two words.
@@ -68,65 +21,161 @@ pub fn put(words: &mut [u32], place: usize, c: u32, k: u32)
     words[2 * place + 1] = k;
 }
 
-/// Writes the terms that ts are stored as from the place `at` on.
-pub fn store(words: &mut [u32], at: usize, p: u32, ts: &[Term])
-    requires modulus { 0 < p }
-    requires fits { (2 * (at + length (merged p (handed ts.now) (handed ts.now))) ≤ length words.old) × (at + length (merged p (handed ts.now) (handed ts.now)) ≤ 65536) }
-    requires small { Small ts.now }
-    ensures holds { pairs at (length (merged p (handed ts.now) (handed ts.now))) words.new ≡ merged p (handed ts.now) (handed ts.now) }
-    ensures below { (j : ℕ) → j < 2 * at → slice_index words.new j ≡ slice_index words.old j }
-    ensures above { (j : ℕ) → 2 * (at + length (merged p (handed ts.now) (handed ts.now))) ≤ j → slice_index words.new j ≡ slice_index words.old j }
-{
-    let mut n: usize = 0;
-    for i in 0..ts.len() {
-        let c = read::code_of(ts[i].variable);
-        let k = weight_at(p, ts, i, c);
-        let counts = k != 0;
-        if counts {
-            put(words, at + n, c as u32, k);
-            n += 1;
+/// Handed terms of which the coefficients of one variable are summed modulo p.
+#[derive(Clone, Copy)]
+pub struct Merged<'a> {
+    pub modulus: u32,
+    pub terms: &'a [Term],
+    pub ghost nonzero: { 0 < modulus },
+}
+
+impl<'a> Merged<'a> {
+    /// The sum modulo p of the coefficients of the variable with the code c.
+    pub fn coefficient(&self, c: u64) -> u32
+        ensures { result ≡ total self.now.modulus 0 (handed self.now.terms.now) c }
+    {
+        let mut a: u32 = 0;
+        for t in self.terms {
+            if read::code_of(t.variable) == c {
+                let k = read::counted_at(*t);
+                a = ((a as u64 + k as u64) % self.modulus as u64) as u32;
+            }
         }
+        a
+    }
+
+    /// What a term of the variable with the code c counts where the terms `after` follow it: the variable's whole coefficient,
+    /// if none of them names it, and else nothing.
+    pub fn weight(&self, c: u64, after: &[Term]) -> u32
+        ensures { result ≡ weight self.now.modulus (handed self.now.terms.now) c (handed after.now) }
+    {
+        if is_named(after, c) {
+            0
+        } else {
+            self.coefficient(c)
+        }
+    }
+
+    /// How many different variables have a nonzero coefficient.
+    pub fn len(&self) -> usize
+        ensures { result ≡ length (whole self.now.modulus self.now.terms.now) }
+    {
+        let mut n: usize = 0;
+        let mut rest = self.terms;
+        while let Some((t, after)) = rest.split_first() {
+            if self.weight(read::code_of(t.variable), after) != 0 {
+                n += 1;
+            }
+            rest = after;
+        }
+        n
+    }
+
+    /// Writes the terms that they are stored as from the place `at` on.
+    pub fn store(&self, words: &mut [u32], at: usize)
+        requires fits { (2 * (at + length (whole self.now.modulus self.now.terms.now)) ≤ length words.old) × (at + length (whole self.now.modulus self.now.terms.now) ≤ 65536) }
+        requires small { Small self.now.terms.now }
+        ensures holds { pairs at (length (whole self.now.modulus self.now.terms.now)) words.new ≡ whole self.now.modulus self.now.terms.now }
+        ensures below { (j : ℕ) → j < 2 * at → slice_index words.new j ≡ slice_index words.old j }
+        ensures above { (j : ℕ) → 2 * (at + length (whole self.now.modulus self.now.terms.now)) ≤ j → slice_index words.new j ≡ slice_index words.old j }
+    {
+        let mut n: usize = 0;
+        let mut rest = self.terms;
+        while let Some((t, after)) = rest.split_first() {
+            let c = read::code_of(t.variable);
+            let k = self.weight(c, after);
+            if k != 0 {
+                put(words, at + n, c as u32, k);
+                n += 1;
+            }
+            rest = after;
+        }
+    }
+
+    /// Writes the n terms that they are stored as from the place `front` on, and then their heading with the kept value.
+    pub fn write_combination(&self, words: &mut [u32], front: usize, n: usize, kept: u32)
+        requires { LcFits self.now.modulus front n kept self.now.terms.now words.old }
+        ensures { LcWritten self.now.modulus front n kept self.now.terms.now words.old words.new }
+    {
+        self.store(words, front);
+        put(words, front + n, 8 * n as u32 + 4, kept);
     }
 }
 
-/// Writes the n terms that ts are stored as from the place `front` on, and then their heading with the kept value.
-pub fn write_combination(terms: &mut [u32], front: usize, n: usize, p: u32, ts: &[Term], kept: u32)
-    requires { LcFits p front n kept ts.now terms.old }
-    ensures { LcWritten p front n kept ts.now terms.old terms.new }
-{
-    store(terms, front, p, ts);
-    put(terms, front + n, 8 * n as u32 + 4, kept);
+/// How many terms the parts of a row have.
+#[derive(Clone, Copy)]
+pub struct Sizes {
+    pub a: usize,
+    pub b: usize,
+    pub c: usize,
 }
 
-/// Writes the terms of A, B and C below `back`, one below the other.
-pub fn write_parts(
-    terms: &mut [u32],
-    back: usize,
-    p: u32,
-    a: &[Term],
-    b: &[Term],
-    c: &[Term],
-    la: usize,
-    lb: usize,
-    lc: usize,
-)
-    requires { PartsFit p back la lb lc a.now b.now c.now terms.old }
-    ensures { Parts p back la lb lc a.now b.now c.now terms.old terms.new }
-{
-    store(terms, back - la, p, a);
-    store(terms, back - la - lb, p, b);
-    store(terms, back - la - lb - lc, p, c);
+impl Sizes {
+    /// Where the parts begin, if they lie below `back`, one below the other.
+    pub fn places(self, back: usize) -> (usize, usize, usize)
+        requires { self.a + self.b + self.c ≤ back }
+        ensures { result ≡ (back - self.a, back - self.a - self.b, back - self.a - self.b - self.c) }
+    {
+        let a = back - self.a;
+        let b = a - self.b;
+        (a, b, b - self.c)
+    }
+
+    /// Writes the six words of row n: where its parts begin, and how long they are.
+    pub fn write_places(self, rows: &mut [u32], n: usize, back: usize)
+        requires { (self.a + self.b + self.c ≤ back) × (back ≤ 65536) × (n < 65536) × (6 * n + 6 ≤ length rows.old) }
+        ensures { Places n back self.a self.b self.c rows.old rows.new }
+    {
+        let (a, b, c) = self.places(back);
+        put(rows, 3 * n, a as u32, self.a as u32);
+        put(rows, 3 * n + 1, b as u32, self.b as u32);
+        put(rows, 3 * n + 2, c as u32, self.c as u32);
+    }
 }
 
-/// Writes the six words of row n: where its parts begin, and how long they are.
-pub fn write_places(rows: &mut [u32], n: usize, back: usize, la: usize, lb: usize, lc: usize)
-    requires { (la + lb + lc ≤ back) × (back ≤ 65536) × (n < 65536) × (6 * n + 6 ≤ length rows.old) }
-    ensures { Places n back la lb lc rows.old rows.new }
-{
-    let a = back - la;
-    let b = a - lb;
-    let c = b - lc;
-    put(rows, 3 * n, a as u32, la as u32);
-    put(rows, 3 * n + 1, b as u32, lb as u32);
-    put(rows, 3 * n + 2, c as u32, lc as u32);
+/// The handed terms of a row.
+#[derive(Clone, Copy)]
+pub struct HandedRow<'a> {
+    pub modulus: u32,
+    pub a: &'a [Term],
+    pub b: &'a [Term],
+    pub c: &'a [Term],
+    pub ghost nonzero: { 0 < modulus },
+}
+
+impl<'a> HandedRow<'a> {
+    // One of its sums.
+    fn sum(&self, terms: &'a [Term]) -> Merged<'a>
+        ensures modulus { result.modulus ≡ self.now.modulus }
+        ensures terms { result.terms.now ≡ terms.now }
+    {
+        Merged {
+            modulus: self.modulus,
+            terms,
+        }
+    }
+
+    /// How many terms its parts are stored as.
+    pub fn sizes(&self) -> Sizes
+        ensures a { result.a ≡ length (whole self.now.modulus self.now.a.now) }
+        ensures b { result.b ≡ length (whole self.now.modulus self.now.b.now) }
+        ensures c { result.c ≡ length (whole self.now.modulus self.now.c.now) }
+    {
+        Sizes {
+            a: self.sum(self.a).len(),
+            b: self.sum(self.b).len(),
+            c: self.sum(self.c).len(),
+        }
+    }
+
+    /// Writes its terms below `back`, one part below the other.
+    pub fn write(&self, words: &mut [u32], back: usize, sizes: Sizes)
+        requires { PartsFit self.now.modulus back sizes.a sizes.b sizes.c self.now.a.now self.now.b.now self.now.c.now words.old }
+        ensures { Parts self.now.modulus back sizes.a sizes.b sizes.c self.now.a.now self.now.b.now self.now.c.now words.old words.new }
+    {
+        let (a, b, c) = sizes.places(back);
+        self.sum(self.a).store(words, a);
+        self.sum(self.b).store(words, b);
+        self.sum(self.c).store(words, c);
+    }
 }

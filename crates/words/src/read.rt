@@ -1,6 +1,6 @@
 ghost use Rattle.std.specs.Prelude.{◌≡◌, ℕ, ◌+◌, ◌-◌, ◌*◌, ◌/◌, ◌%◌, ◌<◌, ◌≤◌, true, length};
 ghost use Rattle.relations.specs.Sum.{code, decode, counted, handed, code_in, all_in};
-ghost use Rattle.words.specs.Words.{there, all_there, word_of, worth, Reads, pairs};
+ghost use Rattle.words.specs.Words.{there, all_there, word_of, worth, Reads, pairs, stored};
 
 use relations::{Term, Variable};
 
@@ -27,59 +27,14 @@ pub fn counted_at(t: Term) -> u32
     }
 }
 
-/// Whether a variable is a constant, one of the inputs and witnesses, or a heading's place below `front`.
-pub fn is_there(terms: &[u32], inputs: usize, witnesses: usize, front: usize, v: Variable) -> bool
-    requires { (2 * front ≤ length terms.now) × (front ≤ 65536) }
-    ensures { result ≡ there inputs witnesses front terms.now v }
+/// The terms that stand in `len` pairs of words from the place `start` on: each a code and a coefficient.
+pub fn stored_terms(words: &[u32], start: usize, len: usize) -> &[[u32; 2]]
+    requires { (2 * (start + len) ≤ length words.now) × (start + len ≤ 65536) }
+    ensures terms { stored result.now ≡ pairs start len words.now }
+    ensures long { length result.now ≡ len }
 {
-    match v {
-        Variable::One => true,
-        Variable::Zero => true,
-        Variable::Input(k) => (k as usize) < inputs,
-        Variable::Witness(k) => (k as usize) < witnesses,
-        Variable::Combination(c) => (c as usize) < front && terms[2 * c as usize] % 8 == 4,
-    }
-}
-
-/// Whether all variables of some terms are.
-pub fn are_there(terms: &[u32], inputs: usize, witnesses: usize, front: usize, ts: &[Term]) -> bool
-    requires { (2 * front ≤ length terms.now) × (front ≤ 65536) }
-    ensures { result ≡ all_there inputs witnesses front terms.now ts.now }
-{
-    for t in ts {
-        if !is_there(terms, inputs, witnesses, front, t.variable) {
-            return false;
-        }
-    }
-    true
-}
-
-/// The word that is kept for the variable with the code c: 1 for the constant, 0 for a place without a heading.
-pub fn word_at(
-    values: &[u32],
-    terms: &[u32],
-    input_room: usize,
-    inputs: usize,
-    witnesses: usize,
-    front: usize,
-    c: u64,
-) -> u32
-    requires { Reads inputs witnesses front input_room values.now terms.now × (code_in inputs witnesses front c ≡ true) }
-    ensures { result ≡ word_of input_room values.now terms.now (decode c) }
-{
-    let i = (c / 8) as usize;
-    match c % 8 {
-        1 => values[i],
-        2 => values[input_room + i],
-        3 => {
-            if terms[2 * i] % 8 == 4 {
-                terms[2 * i + 1]
-            } else {
-                0
-            }
-        }
-        _ => 1,
-    }
+    let (terms, _) = words[2 * start..2 * (start + len)].as_chunks();
+    terms
 }
 
 /// k times x, and `sum` more, modulo p.
@@ -90,64 +45,88 @@ pub fn multiply_add(p: u32, k: u32, x: u32, sum: u32) -> u32
     ((k as u64 * x as u64 + sum as u64) % p as u64) as u32
 }
 
-/// The value modulo p of handed terms under the kept words.
-pub fn worth_of(
-    values: &[u32],
-    terms: &[u32],
-    input_room: usize,
-    inputs: usize,
-    witnesses: usize,
-    front: usize,
-    p: u32,
-    ts: &[Term],
-) -> u32
-    requires { (0 < p) × Reads inputs witnesses front input_room values.now terms.now × (all_in inputs witnesses front (handed ts.now) ≡ true) }
-    ensures { result ≡ worth p input_room values.now terms.now (handed ts.now) }
-{
-    let mut sum: u32 = 0;
-    let mut i = ts.len();
-    while i > 0 {
-        i -= 1;
-        let k = counted_at(ts[i]);
-        let x = word_at(
-            values,
-            terms,
-            input_room,
-            inputs,
-            witnesses,
-            front,
-            code_of(ts[i].variable),
-        );
-        sum = multiply_add(p, k, x, sum);
-    }
-    sum
+/// The words of a system to be read: the kept values, inputs first and witnesses from the input room on, and the terms,
+/// of which those of combinations lie below `front`.
+#[derive(Clone, Copy)]
+pub struct Reader<'a> {
+    pub values: &'a [u32],
+    pub terms: &'a [u32],
+    pub input_room: usize,
+    pub inputs: usize,
+    pub witnesses: usize,
+    pub front: usize,
+    pub modulus: u32,
+    pub ghost nonzero: { 0 < modulus },
+    pub ghost reads: { Reads inputs witnesses front input_room values.now terms.now },
 }
 
-/// The value modulo p of the `len` stored terms from the place `start` on under the kept words.
-pub fn worth_at(
-    values: &[u32],
-    terms: &[u32],
-    input_room: usize,
-    inputs: usize,
-    witnesses: usize,
-    front: usize,
-    p: u32,
-    start: usize,
-    len: usize,
-) -> u32
-    requires { (0 < p) × Reads inputs witnesses front input_room values.now terms.now × (2 * (start + len) ≤ length terms.now) × (start + len ≤ 65536) × (all_in inputs witnesses front (pairs start len terms.now) ≡ true) }
-    ensures { result ≡ worth p input_room values.now terms.now (pairs start len terms.now) }
-{
-    let mut sum: u32 = 0;
-    let mut i = len;
-    while i > 0 {
-        i -= 1;
-        let c = terms[2 * (start + i)];
-        let k = terms[2 * (start + i) + 1];
-        let x = word_at(
-            values, terms, input_room, inputs, witnesses, front, c as u64,
-        );
-        sum = multiply_add(p, k, x, sum);
+impl<'a> Reader<'a> {
+    /// Whether a variable is a constant, one of the inputs and witnesses, or a heading's place below `front`.
+    pub fn has(&self, variable: Variable) -> bool
+        ensures { result ≡ there self.now.inputs self.now.witnesses self.now.front self.now.terms.now variable }
+    {
+        match variable {
+            Variable::One => true,
+            Variable::Zero => true,
+            Variable::Input(k) => (k as usize) < self.inputs,
+            Variable::Witness(k) => (k as usize) < self.witnesses,
+            Variable::Combination(c) => {
+                (c as usize) < self.front && self.terms[2 * c as usize] % 8 == 4
+            }
+        }
     }
-    sum
+
+    /// Whether all variables of some terms are.
+    pub fn has_all(&self, ts: &[Term]) -> bool
+        ensures { result ≡ all_there self.now.inputs self.now.witnesses self.now.front self.now.terms.now ts.now }
+    {
+        ts.iter().all(|t| self.has(t.variable))
+    }
+
+    /// The word that is kept for the variable with the code c: 1 for the constant, 0 for a place without a heading.
+    pub fn word(&self, c: u64) -> u32
+        requires { code_in self.now.inputs self.now.witnesses self.now.front c ≡ true }
+        ensures { result ≡ word_of self.now.input_room self.now.values.now self.now.terms.now (decode c) }
+    {
+        let i = (c / 8) as usize;
+        match c % 8 {
+            1 => self.values[i],
+            2 => self.values[self.input_room + i],
+            3 if self.terms[2 * i] % 8 == 4 => self.terms[2 * i + 1],
+            3 => 0,
+            _ => 1,
+        }
+    }
+
+    /// k times the word for the code c, and `sum` more, modulo p.
+    fn add(&self, sum: u32, c: u64, k: u32) -> u32
+        requires { code_in self.now.inputs self.now.witnesses self.now.front c ≡ true }
+        ensures { result ≡ (k * word_of self.now.input_room self.now.values.now self.now.terms.now (decode c) + sum) % self.now.modulus }
+    {
+        multiply_add(self.modulus, k, self.word(c), sum)
+    }
+
+    /// The value modulo p of handed terms under the kept words.
+    pub fn worth(&self, ts: &[Term]) -> u32
+        requires { all_in self.now.inputs self.now.witnesses self.now.front (handed ts.now) ≡ true }
+        ensures { result ≡ worth self.now.modulus self.now.input_room self.now.values.now self.now.terms.now (handed ts.now) }
+    {
+        let mut sum: u32 = 0;
+        for t in ts.iter().rev() {
+            sum = self.add(sum, code_of(t.variable), counted_at(*t));
+        }
+        sum
+    }
+
+    /// The value modulo p of stored terms under the kept words.
+    pub fn worth_stored(&self, terms: &[[u32; 2]]) -> u32
+        requires { all_in self.now.inputs self.now.witnesses self.now.front (stored terms.now) ≡ true }
+        ensures { result ≡ worth self.now.modulus self.now.input_room self.now.values.now self.now.terms.now (stored terms.now) }
+    {
+        let mut sum: u32 = 0;
+        for [c, k] in terms.iter().rev() {
+            sum = self.add(sum, *c as u64, *k);
+        }
+        sum
+    }
 }

@@ -1,162 +1,179 @@
-ghost use Rattle.std.specs.Prelude.{◌≡◌, ℕ, ◌+◌, ◌-◌, ◌*◌, ◌/◌, ◌%◌, ◌<◌, ◌≤◌, length, take};
+ghost use Rattle.std.specs.Prelude.{◌≡◌, ℕ, ◌+◌, ◌-◌, ◌*◌, ◌/◌, ◌%◌, ◌<◌, ◌≤◌, length, take, slice_index, MatchOption};
+ghost use Rattle.std.specs.Iterator.{at_most};
 ghost use Rattle.relations.specs.Sum.{code_in, all_in};
-ghost use Rattle.words.specs.Words.{pairs, combinations, Chain, Tagged, lists_in, heading, Stack, row_at, triple_in, triples_in, rows as stored_rows, floor};
+ghost use Rattle.words.specs.Words.{stored, combinations, TakenOff, Chain, Tagged, lists_in, Stack, part, row_at, triple_in, triples_in, rows as stored_rows, floor};
+ghost use Rattle.words.specs.Once.{Chain-prop, Stack-prop};
 
-/// Whether the variable with the code c is a constant, or among the first inputs and witnesses and headings below `places`.
-pub fn is_in(c: u32, inputs: usize, witnesses: usize, places: usize) -> bool
-    ensures { result ≡ code_in inputs witnesses places c }
-{
-    match c % 8 {
-        1 => ((c / 8) as usize) < inputs,
-        2 => ((c / 8) as usize) < witnesses,
-        3 => ((c / 8) as usize) < places,
-        _ => true,
+use crate::read::stored_terms;
+
+/// The combinations that end at a place of the words, from the newest down: for each the place of its heading, and its terms.
+#[derive(Clone, Copy)]
+pub struct Combinations<'a> {
+    pub words: &'a [u32],
+    pub left: usize,
+    pub end: usize,
+    pub ghost chain: { Chain left end words.now } by { Chain-prop left end words.now },
+    pub ghost lies: { (2 * end ≤ length words.now) × (end ≤ 65536) },
+}
+
+impl<'a> Combinations<'a> {
+    /// The first k of them.
+    pub fn first(self, k: usize) -> Combinations<'a>
+        requires { k ≤ self.left }
+        ensures count { result.left ≡ k }
+        ensures words { result.words.now ≡ self.entry.words.now }
+        ensures low { result.end ≤ self.entry.end }
+        ensures tagged { (p : ℕ) → Tagged p self.entry.left self.entry.end self.entry.words.now → Tagged p k result.end self.entry.words.now }
+        ensures cut { take k (combinations self.entry.left self.entry.end self.entry.words.now) ≡ combinations k result.end self.entry.words.now }
+    {
+        let mut rest = self;
+        while rest.left > k {
+            let _ = rest.next();
+        }
+        rest
     }
 }
 
-/// Whether the `len` terms from `start` on name only the first inputs and witnesses and headings below `places`.
-pub fn are_in(
-    words: &[u32],
-    start: usize,
-    len: usize,
-    inputs: usize,
-    witnesses: usize,
-    places: usize,
-) -> bool
-    requires { (2 * (start + len) ≤ length words.now) × (start + len ≤ 65536) }
-    ensures { result ≡ all_in inputs witnesses places (pairs start len words.now) }
-{
-    let mut i = len;
-    while i > 0 {
-        i -= 1;
-        if !is_in(words[2 * (start + i)], inputs, witnesses, places) {
-            return false;
+impl<'a> Iterator for Combinations<'a> {
+    type Item = (usize, &'a [[u32; 2]]);
+
+    ghost next_gives = { λ s r t. MatchOption r ((s.left ≡ 0) × (t ≡ s)) (λ x. TakenOff s.left s.end s.words.now t.left t.end t.words.now x.0 (stored x.1.now)) };
+
+    ghost remaining = { λ s. at_most s.left };
+
+    fn next(&mut self) -> Option<(usize, &'a [[u32; 2]])> {
+        if self.left == 0 {
+            return None;
+        }
+        let place = self.end - 1;
+        let len = (self.words[2 * place] / 8) as usize;
+        let start = place - len;
+        let terms = stored_terms(self.words, start, len);
+        *self = Combinations {
+            words: self.words,
+            left: self.left - 1,
+            end: start,
+        };
+        Some((place, terms))
+    }
+}
+
+/// The terms of one row.
+#[derive(Clone, Copy)]
+pub struct Row<'a> {
+    pub a: &'a [[u32; 2]],
+    pub b: &'a [[u32; 2]],
+    pub c: &'a [[u32; 2]],
+}
+
+/// The first `count` rows: six words each, which say where in the terms, from `top` down, their parts lie.
+#[derive(Clone, Copy)]
+pub struct Rows<'a> {
+    pub words: &'a [u32],
+    pub terms: &'a [u32],
+    pub top: usize,
+    pub count: usize,
+    pub ghost stack: { Stack top count words.now } by { Stack-prop top count words.now },
+    pub ghost lies: { (count ≤ 65536) × (6 * count ≤ length words.now) × (2 * top ≤ length terms.now) × (top ≤ 65536) },
+}
+
+impl<'a> Rows<'a> {
+    // The terms of a part, whose place and number stand in two words.
+    fn part(&self, at: usize) -> &'a [[u32; 2]]
+        requires { (at + 1 < length self.now.words.now) × (slice_index self.now.words.now at + slice_index self.now.words.now (at + 1) ≤ self.now.top) }
+        ensures { stored result.now ≡ part at self.now.words.now self.now.terms.now }
+    {
+        stored_terms(
+            self.terms,
+            self.words[at] as usize,
+            self.words[at + 1] as usize,
+        )
+    }
+
+    /// Row i.
+    pub fn row(&self, i: usize) -> Row<'a>
+        requires { i < self.now.count }
+        ensures a { stored result.a.now ≡ (row_at i self.now.words.now self.now.terms.now).a }
+        ensures b { stored result.b.now ≡ (row_at i self.now.words.now self.now.terms.now).b }
+        ensures c { stored result.c.now ≡ (row_at i self.now.words.now self.now.terms.now).c }
+    {
+        Row {
+            a: self.part(6 * i),
+            b: self.part(6 * i + 2),
+            c: self.part(6 * i + 4),
         }
     }
-    true
-}
 
-/// How many terms the combination that ends at `end` has.
-pub fn length_at(words: &[u32], end: usize) -> usize
-    requires { (0 < end) × (2 * end ≤ length words.now) × (end ≤ 65536) }
-    ensures { result ≡ heading end words.now }
-{
-    (words[2 * (end - 1)] / 8) as usize
-}
-
-/// Where the first k of the combinations that end at `front` end.
-pub fn end_of(words: &[u32], lcs: usize, front: usize, k: usize) -> usize
-    requires { Chain lcs front words.now × (k ≤ lcs) × (2 * front ≤ length words.now) × (front ≤ 65536) }
-    ensures low { result ≤ front }
-    ensures chain { Chain k result words.now }
-    ensures tagged { (p : ℕ) → Tagged p lcs front words.now → Tagged p k result words.now }
-    ensures cut { take k (combinations lcs front words.now) ≡ combinations k result words.now }
-{
-    let mut left = lcs;
-    let mut end = front;
-    while left > k {
-        let len = length_at(words, end);
-        end = end - 1 - len;
-        left -= 1;
-    }
-    end
-}
-
-/// Whether the combinations that end at `end` do.
-pub fn combinations_in(
-    words: &[u32],
-    count: usize,
-    end: usize,
-    inputs: usize,
-    witnesses: usize,
-    places: usize,
-) -> bool
-    requires { Chain count end words.now × (2 * end ≤ length words.now) × (end ≤ 65536) }
-    ensures { result ≡ lists_in inputs witnesses places (combinations count end words.now) }
-{
-    let mut left = count;
-    let mut at = end;
-    while left > 0 {
-        let len = length_at(words, at);
-        at = at - 1 - len;
-        left -= 1;
-        if !are_in(words, at, len, inputs, witnesses, places) {
-            return false;
+    /// Where the terms of the first r rows begin.
+    pub fn floor(&self, r: usize) -> usize
+        requires { r ≤ self.now.count }
+        ensures { result ≡ floor self.now.top r self.now.words.now }
+    {
+        if r == 0 {
+            self.top
+        } else {
+            self.words[6 * (r - 1) + 4] as usize
         }
     }
-    true
 }
 
-/// Whether row i does.
-pub fn row_in(
-    rows: &[u32],
-    terms: &[u32],
-    top: usize,
-    count: usize,
-    i: usize,
-    inputs: usize,
-    witnesses: usize,
-    places: usize,
-) -> bool
-    requires { (i < count) × (count ≤ 65536) × (6 * count ≤ length rows.now) × (2 * top ≤ length terms.now) × (top ≤ 65536) × Stack top count rows.now }
-    ensures { result ≡ triple_in inputs witnesses places (row_at i rows.now terms.now) }
-{
-    are_in(
-        terms,
-        rows[6 * i] as usize,
-        rows[6 * i + 1] as usize,
-        inputs,
-        witnesses,
-        places,
-    ) && are_in(
-        terms,
-        rows[6 * i + 2] as usize,
-        rows[6 * i + 2 + 1] as usize,
-        inputs,
-        witnesses,
-        places,
-    ) && are_in(
-        terms,
-        rows[6 * i + 4] as usize,
-        rows[6 * i + 4 + 1] as usize,
-        inputs,
-        witnesses,
-        places,
-    )
+/// The variables that may be named: the constants, the first inputs and witnesses, and headings below `places`.
+#[derive(Clone, Copy)]
+pub struct Bounds {
+    pub inputs: usize,
+    pub witnesses: usize,
+    pub places: usize,
 }
 
-/// Whether the first r rows do.
-pub fn rows_in(
-    rows: &[u32],
-    terms: &[u32],
-    top: usize,
-    count: usize,
-    r: usize,
-    inputs: usize,
-    witnesses: usize,
-    places: usize,
-) -> bool
-    requires { (r ≤ count) × (count ≤ 65536) × (6 * count ≤ length rows.now) × (2 * top ≤ length terms.now) × (top ≤ 65536) × Stack top count rows.now }
-    ensures { result ≡ triples_in inputs witnesses places (stored_rows r rows.now terms.now) }
-{
-    let mut i = r;
-    while i > 0 {
-        i -= 1;
-        if !row_in(rows, terms, top, count, i, inputs, witnesses, places) {
-            return false;
+impl Bounds {
+    /// Whether the variable with the code c is one of them.
+    pub fn has(self, c: u32) -> bool
+        ensures { result ≡ code_in self.inputs self.witnesses self.places c }
+    {
+        match c % 8 {
+            1 => ((c / 8) as usize) < self.inputs,
+            2 => ((c / 8) as usize) < self.witnesses,
+            3 => ((c / 8) as usize) < self.places,
+            _ => true,
         }
     }
-    true
-}
 
-/// Where the terms of the first r rows begin.
-pub fn floor_of(rows: &[u32], top: usize, r: usize) -> usize
-    requires { (r ≤ 65536) × (6 * r ≤ length rows.now) }
-    ensures { result ≡ floor top r rows.now }
-{
-    if r == 0 {
-        top
-    } else {
-        rows[6 * (r - 1) + 4] as usize
+    /// Whether stored terms name only those.
+    pub fn has_all(self, terms: &[[u32; 2]]) -> bool
+        ensures { result ≡ all_in self.inputs self.witnesses self.places (stored terms.now) }
+    {
+        terms.iter().all(|[c, _]| self.has(*c))
+    }
+
+    /// Whether combinations do.
+    pub fn has_combinations(self, combos: Combinations) -> bool
+        ensures { result ≡ lists_in self.inputs self.witnesses self.places (combinations combos.entry.left combos.entry.end combos.entry.words.now) }
+    {
+        for (_, terms) in combos {
+            if !self.has_all(terms) {
+                return false;
+            }
+        }
+        true
+    }
+
+    /// Whether a row does.
+    pub fn has_row(self, row: Row) -> bool
+        ensures { result ≡ triple_in self.inputs self.witnesses self.places (record { a = stored row.entry.a.now; b = stored row.entry.b.now; c = stored row.entry.c.now }) }
+    {
+        self.has_all(row.a) && self.has_all(row.b) && self.has_all(row.c)
+    }
+
+    /// Whether the first r rows do.
+    pub fn has_rows(self, rows: &Rows, r: usize) -> bool
+        requires { r ≤ rows.now.count }
+        ensures { result ≡ triples_in self.inputs self.witnesses self.places (stored_rows r rows.now.words.now rows.now.terms.now) }
+    {
+        for i in 0..r {
+            if !self.has_row(rows.row(i)) {
+                return false;
+            }
+        }
+        true
     }
 }

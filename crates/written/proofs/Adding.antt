@@ -1,10 +1,11 @@
 -- Adding multiples of terms to coefficients.
-use Rattle.std.proofs.Common.{◌≡◌, ℕ, ◌+◌, ◌*◌, ◌/◌, ◌%◌, ◌<◌, ◌≤◌, Bool, true, false, cond, eqb, List, [], ◌∷◌, ◌++◌, length, get_or, set, Some, None, sym, refl, ap, ◌∙◌, subst, inl, inr, mod-lt, mod-eq_of_lt, mul_assoc, mul_comm, one-mul, mul-zero, zero-mul, mul-add, arith, get_or-set_other, get_or-set_same, eq-eqb, ne_eqb}
+use Rattle.std.proofs.Common.{◌≡◌, ℕ, ◌+◌, ◌-◌, ◌*◌, ◌/◌, ◌%◌, ◌<◌, ◌≤◌, Bool, true, false, cond, eqb, List, [], ◌∷◌, ◌++◌, length, get_or, set, take, drop, replicate, Some, None, sym, refl, ap, ◌∙◌, subst, inl, inr, mod-lt, mod-eq_of_lt, mul_assoc, mul_comm, one-mul, mul-zero, zero-mul, mul-add, arith, get_or-set_other, get_or-set_same, eq-eqb, ne_eqb}
 use native.Mathlib.Nat.{add-mod-mod, div-add-mod, mul-add-mod_self_left}
+use Rattle.std.proofs.lemmas.List.{take_more, take_all, get_or_append_left, get_or-append_right, get_or-replicate, get_or-drop, length-replicate}
 use Rattle.std.proofs.lemmas.Bool.{cond-true, cond-false, cases_eq}
 use Rattle.relations.specs.Sum.{Pairs, code, total}
-use Rattle.words.specs.Words.{pairs}
-use Rattle.words.proofs.Frames.{pairs_more}
+use Rattle.words.specs.Words.{stored}
+use Rattle.words.proofs.Worths.{stored_last}
 use Rattle.words.proofs.Merging.{total_below}
 use Rattle.written.specs.declared.Counts.{Counts}
 use Rattle.written.specs.Cells.{cells, variable_at, cell, Below, Added, Spread}
@@ -106,11 +107,29 @@ spread_push p n k ts c x os qs rs s a = record {
     go j true e = ap (λ (y : ℕ). (k * x + y) % p) e ∙ one_more p k (get_or os j 0) (total p 0 ts (code (variable_at n j))) x
     go j false e = e
 
-pub spread_more : (p : ℕ) (n : Counts) (k start i : ℕ) (ws os qs rs : List ℕ) → Spread p n k (pairs start i ws) os qs → Added p n k (get_or ws (2 * (start + i)) 0) (get_or ws (2 * (start + i) + 1) 0) qs rs → Spread p n k (pairs start (i + 1) ws) os rs
-spread_more p n k start i ws os qs rs s a = subst (λ (ts : Pairs). Spread p n k ts os rs) (sym (pairs_more start i ws)) (spread_push p n k (pairs start i ws) _ _ os qs rs s a)
+pub spread_more : (p : ℕ) (n : Counts) (k i : ℕ) (ts : List (List ℕ)) (d : List ℕ) (os qs rs : List ℕ) → i < length ts → Spread p n k (stored (take i ts)) os qs → Added p n k (get_or (get_or ts i d) 0 0) (get_or (get_or ts i d) 1 0) qs rs → Spread p n k (stored (take (i + 1) ts)) os rs
+spread_more p n k i ts d os qs rs h s a =
+    subst (λ (xs : Pairs). Spread p n k xs os rs) (sym (stored_last (take i ts) (take (i + 1) ts) (get_or ts i d) (take_more ts i d h))) (spread_push p n k (stored (take i ts)) _ _ os qs rs s a)
+
+pub spread_all : (p : ℕ) (n : Counts) (k i : ℕ) (ts : List (List ℕ)) (os qs : List ℕ) → length ts ≤ i → Spread p n k (stored (take i ts)) os qs → Spread p n k (stored ts) os qs
+spread_all p n k i ts os qs h s = subst (λ (xs : List (List ℕ)). Spread p n k (stored xs) os qs) (take_all i ts h) s
 
 pub spread_below : (p : ℕ) (n : Counts) (k : ℕ) (ts : Pairs) (os qs : List ℕ) → 0 < p → Spread p n k ts os qs → Below p n qs
 spread_below p n k ts os qs h s = λ j l. subst (λ (x : ℕ). x < p) (sym (s.sums j l)) (mod-lt (get_or os j 0 + k * total p 0 ts (code (variable_at n j))) h)
+
+-- the first cells are set to zero
+pub record Cleared (n : Counts) (os qs : List ℕ) : Type 0 where
+  pub zeros : (j : ℕ) → j < cells n → get_or qs j 0 ≡ 0
+  pub beyond : (j : ℕ) → cells n ≤ j → get_or qs j 0 ≡ get_or os j 0
+
+pub cleared : (n : Counts) (size m : ℕ) (os qs : List ℕ) → size ≡ cells n → m ≡ size → qs ≡ replicate m 0 → Cleared n os (qs ++ drop size os)
+cleared n size m os qs e em q = record {
+  zeros = λ j h. get_or_append_left qs (drop size os) 0 j (omega (arith, long)) ∙ ap (λ (xs : List ℕ). get_or xs j 0) q ∙ get_or-replicate m j 0 0 (omega arith);
+  beyond = λ j h. get_or-append_right qs (drop size os) size j 0 long (omega arith) ∙ get_or-drop size os (j - size) 0 ∙ ap (λ (x : ℕ). get_or os x 0) (omega arith);
+}
+  where
+    long : length qs ≡ size
+    long = ap length q ∙ length-replicate m 0 ∙ em
 
 -- terms added once to no coefficients
 pub spread_once : (p : ℕ) (n : Counts) (ts : Pairs) (os qs : List ℕ) → 0 < p → ((j : ℕ) → j < cells n → get_or os j 0 ≡ 0) → Spread p n 1 ts os qs → (j : ℕ) → j < cells n → get_or qs j 0 ≡ total p 0 ts (code (variable_at n j))

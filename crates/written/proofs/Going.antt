@@ -6,7 +6,7 @@ use Rattle.relations.specs.declared.term.Variable.TheVariants.{Combination}
 use Rattle.relations.specs.Sum.{Pairs, code, total}
 use Rattle.relations.specs.Meaning.{Combo, places}
 use Rattle.relations.specs.Written.{expanded}
-use Rattle.words.specs.Words.{pairs, Kept, combination, combo, combinations, heading, Chain}
+use Rattle.words.specs.Words.{pairs, Kept, combination, combo, combinations, heading, Chain, TakenOff}
 use Rattle.words.proofs.Frames.{length_pairs}
 use Rattle.words.proofs.Areas.{places_append, combinations_used}
 use Rattle.words.proofs.Cuts.{Last, last}
@@ -49,17 +49,17 @@ pub record Replacing (p : ℕ) (n : Counts) (left end : ℕ) (ws os qs : List �
   pub beyond : Beyond n os qs
   pub going : (f : Variable → ℕ) → Holds n os f → Going p n qs (older p left end ws) (expanded p f (newest_first p n ws))
 
-pub replacing_start : (p : ℕ) (n : Counts) (ws os : List ℕ) → Chain n.lcs n.front ws → Below p n os → Replacing p n n.lcs n.front ws os os
-replacing_start p n ws os c b = record {
+pub replacing_start : (p : ℕ) (n : Counts) (left end : ℕ) (ws os : List ℕ) → left ≡ n.lcs → end ≡ n.front → Chain n.lcs n.front ws → Below p n os → Replacing p n left end ws os os
+replacing_start p n left end ws os a e c b = subst (λ (x : ℕ). Replacing p n x end ws os os) (sym a) (subst (λ (x : ℕ). Replacing p n n.lcs x ws os os) (sym e) record {
   low = omega arith;
   chain = c;
   below = b;
   beyond = λ j h. refl;
   going = λ f h. record { so_far = f; holds = h; same = refl };
-}
+})
 
 -- one combination replaced: k is the coefficient in its cell
-going_step : (p : ℕ) (n : Counts) (left end k : ℕ) (ws os qs : List ℕ) (whole : Variable → ℕ) → Last left end ws → end ≤ n.front → k ≡ get_or os (n.inputs + n.witnesses + end) 0 → Spread p n k (pairs (end - 1 - heading end ws) (heading end ws) ws) os qs → Going p n os (older p left end ws) whole → Going p n qs (older p (left - 1) (end - 1 - heading end ws) ws) whole
+going_step : (p : ℕ) (n : Counts) (left end k : ℕ) (ws os qs : List ℕ) (whole : Variable → ℕ) → Last left end ws → end ≤ n.front → k ≡ get_or os (1 + n.inputs + n.witnesses + (end - 1)) 0 → Spread p n k (pairs (end - 1 - heading end ws) (heading end ws) ws) os qs → Going p n os (older p left end ws) whole → Going p n qs (older p (left - 1) (end - 1 - heading end ws) ws) whole
 going_step p n left end k ws os qs whole l low ke s g = record {
   so_far = λ v. (g.so_far v + g.so_far (Combination (places rest + length ts)) * total p 0 ts (code v)) % p;
   holds = λ j h. s.sums j h ∙ (λ t. (g.holds j h t + coefficient t * total p 0 ts (code (variable_at n j))) % p);
@@ -75,27 +75,32 @@ going_step p n left end k ws os qs whole l low ke s g = record {
     place : end - 1 ≡ places rest + length ts
     place = omega (arith, older_places p (left - 1) (end - 1 - heading end ws) ws l.chain, length_pairs (end - 1 - heading end ws) (heading end ws) ws, l.long)
 
-    index : n.inputs + n.witnesses + end ≡ 1 + n.inputs + n.witnesses + (end - 1)
-    index = omega (arith, l.some)
-
     coefficient : k ≡ g.so_far (Combination (places rest + length ts))
     coefficient =
-        ke ∙ ap (λ (j : ℕ). get_or os j 0) index
-        ∙ g.holds (1 + n.inputs + n.witnesses + (end - 1)) (omega (arith, l.some))
+        ke ∙ g.holds (1 + n.inputs + n.witnesses + (end - 1)) (omega (arith, l.some))
         ∙ ap g.so_far (at_combination n (end - 1) ∙ ap Combination place)
 
-pub replacing_step : (p : ℕ) (n : Counts) (left end l k : ℕ) (ws os qs rs : List ℕ) → 0 < p → 0 < left → l ≡ heading end ws → k ≡ get_or qs (n.inputs + n.witnesses + end) 0 → Spread p n k (pairs (end - 1 - l) l ws) qs rs → Replacing p n left end ws os qs → Replacing p n (left - 1) (end - 1 - l) ws os rs
-replacing_step p n left end l k ws os qs rs pos h e ke s inv =
-    subst (λ (x : ℕ). Replacing p n (left - 1) (end - 1 - x) ws os rs) (sym e) record {
-      low = omega (arith, inv.low);
-      chain = down.chain;
-      below = spread_below p n k (pairs (end - 1 - l) l ws) qs rs pos s;
-      beyond = λ j b. s.beyond j b ∙ inv.beyond j b;
-      going = λ f b. going_step p n left end k ws qs rs _ down inv.low ke (subst (λ (x : ℕ). Spread p n k (pairs (end - 1 - x) x ws) qs rs) e s) (inv.going f b);
-    }
+-- the newest is taken off, and its terms are added
+pub replacing_step : (p : ℕ) (n : Counts) (left end : ℕ) (us : List ℕ) (left' end' : ℕ) (us' : List ℕ) (at : ℕ) (ts : Pairs) (k : ℕ) (ws os qs rs : List ℕ) → 0 < p → us ≡ ws → TakenOff left end us left' end' us' at ts → k ≡ get_or qs (1 + n.inputs + n.witnesses + at) 0 → Spread p n k ts qs rs → Replacing p n left end ws os qs → (us' ≡ ws) × Replacing p n left' end' ws os rs
+replacing_step p n left end us left' end' us' at ts k ws os qs rs pos e t ke s inv = (
+  t.same ∙ e,
+  subst (λ (x : ℕ). Replacing p n x end' ws os rs) (sym t.fewer) (subst (λ (x : ℕ). Replacing p n (left - 1) x ws os rs) lower record {
+    low = omega (arith, inv.low);
+    chain = down.chain;
+    below = spread_below p n k ts qs rs pos s;
+    beyond = λ j b. s.beyond j b ∙ inv.beyond j b;
+    going = λ f b. going_step p n left end k ws qs rs _ down inv.low (ke ∙ ap (λ (x : ℕ). get_or qs (1 + n.inputs + n.witnesses + x) 0) t.place) (subst (λ (xs : Pairs). Spread p n k xs qs rs) terms s) (inv.going f b);
+  }),
+)
   where
     down : Last left end ws
-    down = last left end ws h inv.chain
+    down = last left end ws t.some inv.chain
+
+    lower : end - 1 - heading end ws ≡ end'
+    lower = ap (λ (vs : List ℕ). end - 1 - heading end vs) (sym e) ∙ sym t.lower
+
+    terms : ts ≡ pairs (end - 1 - heading end ws) (heading end ws) ws
+    terms = t.terms ∙ ap (λ (vs : List ℕ). pairs (end - 1 - heading end vs) (heading end vs) vs) e
 
 pub replaced : (p : ℕ) (n : Counts) (left end : ℕ) (ws os qs : List ℕ) → left ≡ 0 → Replacing p n left end ws os qs → (f : Variable → ℕ) → Holds n os f → Holds n qs (expanded p f (newest_first p n ws))
 replaced p n left end ws os qs z inv f h =

@@ -1,4 +1,5 @@
-use crate::{Counts, write_out};
+use crate::Counts;
+use crate::writer::Writer;
 
 /// Two combinations, 2 input + 3 and then 4 times the first + 5 witness, and the sum of the second + 6, modulo 7.
 #[test]
@@ -11,8 +12,13 @@ fn sum_of_combinations(rt: HostRuntime) {
         front: 6,
     };
     let mut out: [u32; 10] = [9; 10];
-    let done = write_out(&mut out, &terms, counts, 7, 6, 2);
-    assert!(rt; done);
+    let writer = Writer {
+        terms: &terms,
+        counts,
+        modulus: 7,
+    };
+    let done = writer.write_out(&mut out, 6, 2);
+    assert!(rt; done.is_ok());
     assert_eq!(rt; out[0], 4);
     assert_eq!(rt; out[1], 1);
     assert_eq!(rt; out[2], 5);
@@ -30,8 +36,13 @@ fn too_short(rt: HostRuntime) {
         front: 6,
     };
     let mut out: [u32; 8] = [9; 8];
-    let done = write_out(&mut out, &terms, counts, 7, 6, 2);
-    assert!(rt; !done);
+    let writer = Writer {
+        terms: &terms,
+        counts,
+        modulus: 7,
+    };
+    let done = writer.write_out(&mut out, 6, 2);
+    assert!(rt; done.is_err());
     assert_eq!(rt; out[0], 9);
     assert_eq!(rt; out[7], 9);
 }
