@@ -2,6 +2,7 @@ ghost use Rattle.std.specs.Prelude.{◌≡◌};
 ghost use Rattle.command.specs.Answers.{kind_of, mode_of, value_of};
 
 use crate::commands::Kind;
+use crate::fault::TapeFault;
 use boolean::{AllocationMode, Boolean, BooleanCall};
 use relations::Refusal;
 use std::fmt;
@@ -17,6 +18,19 @@ pub enum Answer {
 pub struct Refused {
     pub command: u32,
     pub refusal: Refusal,
+}
+
+impl Refused {
+    ghost use Rattle.command.specs.Refusals.{of_tape};
+
+    /// The command with a number, refused with a fault.
+    pub fn new(command: u32, fault: TapeFault) -> Refused
+        ensures command { result.command ≡ command }
+        ensures refusal { result.refusal ≡ of_tape fault }
+    {
+        let refusal = fault.into();
+        Refused { command, refusal }
+    }
 }
 
 impl fmt::Display for Refused {

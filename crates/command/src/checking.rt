@@ -1,7 +1,7 @@
-ghost use Rattle.std.specs.Prelude.{◌≡◌, ℕ, ◌<◌, ◌≤◌, Bool, true, false, List, length};
+ghost use Rattle.std.specs.Prelude.{◌≡◌, List, length};
 ghost use Rattle.relations.specs.Script.{over};
 ghost use Rattle.command.specs.declared.commands.Kind.{Kind as Sort};
-ghost use Rattle.command.specs.Decide.{kind_at, is_bit, fits, answers, checked};
+ghost use Rattle.command.specs.Decide.{kind_at, is_bit, fits, checked};
 
 use crate::commands::{Command, Kind};
 use crate::fault::TapeFault;

@@ -1,4 +1,3 @@
-pub mod Books
 pub mod Executes
 pub mod Primes
 pub mod Tapes

@@ -1,48 +1,25 @@
 -- A tape's commands one after another.
-use Rattle.std.proofs.Common.{◌≡◌, ℕ, ◌+◌, ◌-◌, ◌<◌, ◌≤◌, Bool, true, false, cond, ◌&&◌, eqb, ltb, leb, List, [], ◌∷◌, ◌++◌, length, get_or, take, drop, Some, None, Ok, Err, Option, Result, sym, refl, ap, ◌∙◌, subst, append_assoc, append-nil, arith, length-drop, le-ltb, lt-ltb, leb-true, false-eqb}
-use Rattle.std.proofs.lemmas.List.{take_all}
-use Rattle.relations.specs.declared.fault.Refusal.{Refusal}
+use Rattle.std.proofs.Common.{◌≡◌, ℕ, ◌+◌, ◌-◌, ◌<◌, ◌≤◌, Bool, true, false, cond, ◌&&◌, ltb, List, [], ◌∷◌, ◌++◌, length, take, drop, Some, None, Ok, Err, Option, Result, sym, refl, ap, ◌∙◌, subst, append_assoc, append-nil, arith, length-drop, le-ltb, lt-ltb}
+use Rattle.std.proofs.lemmas.List.{take_all, drop-drop}
 use Rattle.relations.specs.Script.{over}
 use Rattle.command.specs.declared.commands.Kind.{Kind}
-use Rattle.command.specs.declared.commands.Decoded.{Decoded}
 use Rattle.command.specs.declared.fault.TapeFault.{TapeFault}
 use Rattle.command.specs.declared.fault.TapeFault.TheVariants.{Unknown}
 use Rattle.command.specs.declared.answers.Refused.{Refused}
 use Rattle.command.specs.Refusals.{of_tape}
-use Rattle.command.specs.Tape.{bytes, spelled, decoded}
 use Rattle.readings.specs.State.{State, executed}
 use Rattle.readings.specs.Runs.{History, Running, Promise, decided}
 use Rattle.tape.specs.Tape.{Reads, nothing, further, line, lines, last_line, outcome_line, Next, Taped, Progress}
 
 -- a refusal that was decided
 pub err_decided : (d : Result (List Kind) TapeFault) (f : TapeFault) → ◌≡◌ {A = Result (Unit {0}) TapeFault} (Err f) (over (λ ks. tt) d) → d ≡ Err f
-err_decided (Ok ks) f e = let z : ◌≡◌ {A = ℕ} 0 1 = cc e in absurd (omega arith)
+err_decided (Ok ks) f e = cc e
 err_decided (Err g) f e = ap Err (cc e)
 
 -- one more line
-pub noted : (n : ℕ) (d : Result (List Kind) TapeFault) (f : TapeFault) (r : Refusal) (before middle after : List Refused) → ◌≡◌ {A = Result (Unit {0}) TapeFault} (Err f) (over (λ ks. tt) d) → r ≡ of_tape f → middle ≡ before → after ≡ middle ++ (record { command = n; refusal = r } ∷ []) → after ≡ before ++ outcome_line n d
-noted n d f r before middle after e q b a =
-    a ∙ ap (λ l. l ++ (record { command = n; refusal = r } ∷ [])) b ∙ ap (λ x. before ++ (record { command = n; refusal = x } ∷ [])) q ∙ ap (λ x. before ++ outcome_line n x) (sym (err_decided d f e))
-
--- a decoded command takes some of the bytes
-pub record Takes (bs : List ℕ) (k : ℕ) : Type 0 where
-  pub some : 0 < k
-  pub within : k ≤ length bs
-
-pub takes : (bs : List ℕ) (d : Decoded) → decoded bs ≡ Some d → Takes bs d.length
-takes bs d e = go (eqb (bytes (get_or bs 0 0)) 0) (leb (bytes (get_or bs 0 0)) (length bs)) refl refl e
-  where
-    go : (z f : Bool) → eqb (bytes (get_or bs 0 0)) 0 ≡ z → leb (bytes (get_or bs 0 0)) (length bs) ≡ f
-        → cond {A = Option Decoded} z None (cond f (Some (record { command = spelled (get_or bs 0 0) bs; length = bytes (get_or bs 0 0) })) None) ≡ Some d → Takes bs d.length
-    go true f a b q = let z : ◌≡◌ {A = ℕ} 0 1 = cc q in absurd (omega arith)
-    go false true a b q =
-        let same : bytes (get_or bs 0 0) ≡ d.length = ap (λ x. x.length) (injected q) in
-        let ne = false-eqb (bytes (get_or bs 0 0)) 0 (sym a) in
-        record { some = omega arith; within = omega (arith, leb-true (bytes (get_or bs 0 0)) (length bs) b) }
-      where
-        injected : {x y : Decoded} → Some x ≡ Some y → x ≡ y
-        injected h = cc h
-    go false false a b q = let z : ◌≡◌ {A = ℕ} 0 1 = cc q in absurd (omega arith)
+pub noted : (n : ℕ) (d : Result (List Kind) TapeFault) (f : TapeFault) (r : Refused) (before middle after : List Refused) → ◌≡◌ {A = Result (Unit {0}) TapeFault} (Err f) (over (λ ks. tt) d) → r.command ≡ n → r.refusal ≡ of_tape f → middle ≡ before → after ≡ middle ++ (r ∷ []) → after ≡ before ++ outcome_line n d
+noted n d f r before middle after e c q b a =
+    a ∙ (λ i. b i ++ (record { command = c i; refusal = q i } ∷ [])) ∙ ap (λ x. before ++ outcome_line n x) (sym (err_decided d f e))
 
 lines_more : (e : Result (List Kind) TapeFault) (c : _) (h : History) → lines ((c, e) ∷ h) ≡ lines h ++ outcome_line (length h) e
 lines_more (Ok ks) c h = sym (append-nil (lines h))
@@ -127,10 +104,10 @@ module _ {E : Type 0} (p most : ℕ) (tape : List ℕ) (promised : (h : History)
       let k = subst (Running p (r.history ++ g)) (sym q) r.running in
       record { history = r.history; at = at; reads = r.reads; few = omega (arith, r.count); steps = q ∙ r.steps; running = k; promise = promised (r.history ++ g) t k; ends = a ∙ r.refusals }
 
--- the rest of a slice
-pub rest_is : (at : ℕ) (tape : List ℕ) → take (length tape - at) (drop at tape) ≡ drop at tape
-rest_is at tape = take_all (length tape - at) (drop at tape) (omega (arith, length-drop at tape))
+-- the rest of a tape once a command of it is read
+pub left_is : (at k : ℕ) (tape rest : List ℕ) → rest ≡ drop at tape → take (length rest - k) (drop k rest) ≡ drop (at + k) tape
+left_is at k tape rest e = take_all (length rest - k) (drop k rest) (omega (arith, length-drop k rest)) ∙ ap (drop k) e ∙ drop-drop k at tape
 
 -- what a command of the rest came to, where its answer is known
-pub known_next : (E : Type 0) (p at n : ℕ) (tape : List ℕ) (s t : State) (o q : Option ℕ) (before after : List Refused) → o ≡ q → Next {E = E} p (take (length tape - at) (drop at tape)) n s t (Ok o) before after → Next {E = E} p (drop at tape) n s t (Ok q) before after
-known_next E p at n tape s t o q before after e h = subst (λ (x : Option ℕ). Next {E = E} p (drop at tape) n s t (Ok x) before after) e (subst (λ (bs : List ℕ). Next {E = E} p bs n s t (Ok o) before after) (rest_is at tape) h)
+pub known_next : (E : Type 0) (p at n : ℕ) (tape rest : List ℕ) (s t : State) (o q : Option ℕ) (before after : List Refused) → rest ≡ drop at tape → o ≡ q → Next {E = E} p rest n s t (Ok o) before after → Next {E = E} p (drop at tape) n s t (Ok q) before after
+known_next E p at n tape rest s t o q before after l e h = subst (λ (x : Option ℕ). Next {E = E} p (drop at tape) n s t (Ok x) before after) e (subst (λ (bs : List ℕ). Next {E = E} p bs n s t (Ok o) before after) l h)

@@ -1,22 +1,26 @@
-ghost use Rattle.std.specs.Prelude.{◌≡◌, ℕ, ◌+◌, ◌<◌, ◌≤◌, min, List, [], ◌∷◌, ◌++◌, length, if◌then◌else◌, Some as some, None as none, nat_lt};
-ghost use Rattle.command.specs.Decide.{kind_at};
-ghost use Rattle.command.specs.Answers.{kinds as kinds_of, answer_at, bit_at};
-ghost use Rattle.tape.specs.Book.{held_by, places_of};
+ghost use Rattle.std.specs.Prelude.{◌≤◌, length};
 
 use boolean::Boolean;
-use command::{Answer, Kind, Kinds};
+use command::{Answer, Kind, Kinds, TapeFault};
 
 /// The answers so far, in the order in which they came, over a lent slice: as many places as it has, and at most 4,096.
+// The slice and the count of its used places stand in place of a vector, since the memory of a run is lent and this crate allocates none.
 #[derive(Drop)]
 pub struct Book<'a> {
     answers: &'a mut [Answer],
     count: usize,
+    ghost within: { count ≤ length answers.now },
 }
 
 /// The most answers that a book takes.
 pub const MOST: usize = 4096;
 
 impl<'a> Book<'a> {
+    ghost use Rattle.std.specs.Prelude.{◌≡◌, min, [], ◌∷◌, ◌++◌, length, if◌then◌else◌, nat_lt};
+    ghost use Rattle.std.specs.Result.{is_ok};
+    ghost use Rattle.command.specs.Answers.{answer_at, bit_at};
+    ghost use Rattle.tape.specs.Book.{held_by, places_of};
+
     /// An empty book over a lent slice.
     pub fn new(answers: &'a mut [Answer]) -> Book<'a>
         ensures empty { held_by result ≡ [] }
@@ -36,45 +40,51 @@ impl<'a> Book<'a> {
     pub fn len(&self) -> usize
         ensures { result ≡ length (held_by self.now) }
     {
-        self.count.min(self.answers.len())
+        self.held().len()
+    }
+
+    /// The answers that it holds.
+    fn held(&self) -> &[Answer]
+        ensures { result.now ≡ held_by self.now }
+    {
+        &self.answers[..self.count]
     }
 
     /// The answer with a number; a book that has no such answer gives a constant.
     pub fn get(&self, a: u32) -> Answer
         ensures { result ≡ answer_at (held_by self.now) a }
     {
-        if a as usize >= self.len() {
-            return Answer::Bit(Boolean::Constant(false));
-        }
-        self.answers[a as usize]
+        let constant = Answer::Bit(Boolean::Constant(false));
+        self.held().get(a as usize).copied().unwrap_or(constant)
     }
 
     /// The bit with a number.
     pub fn bit(&self, a: u32) -> Boolean
         ensures { result ≡ bit_at (held_by self.now) a }
     {
-        match self.get(a) {
-            Answer::Bit(b) => b,
-        }
+        let Answer::Bit(bit) = self.get(a);
+        bit
     }
 
-    /// One answer more, where there is a place for it; a full book stays as it is.
-    pub fn push(&mut self, answer: Answer) -> bool
+    /// One answer more, refused where there is no place for it; a full book stays as it is.
+    pub fn push(&mut self, answer: Answer) -> Result<(), TapeFault>
         ensures places { places_of self.new ≡ places_of self.old }
-        ensures pushed { result ≡ nat_lt (length (held_by self.old)) (places_of self.old) }
-        ensures holds { held_by self.new ≡ (if result then held_by self.old ++ (answer ∷ []) else held_by self.old) }
+        ensures pushed { result ≡ (if nat_lt (length (held_by self.old)) (places_of self.old) then Ok tt else Err TapeFault.BookFull) }
+        ensures holds { held_by self.new ≡ (if is_ok result then held_by self.old ++ (answer ∷ []) else held_by self.old) }
     {
-        let n = self.len();
-        if n >= self.places() {
-            return false;
+        if self.len() >= self.places() {
+            return Err(TapeFault::BookFull);
         }
-        self.answers[n] = answer;
-        self.count = n + 1;
-        true
+        self.answers[self.count] = answer;
+        self.count += 1;
+        Ok(())
     }
 }
 
 impl<'a> Kinds for Book<'a> {
+    ghost use Rattle.command.specs.Answers.{kinds as kinds_of};
+    ghost use Rattle.tape.specs.Book.{held_by};
+
     ghost kinds = { λ b. kinds_of (held_by b) };
 
     fn count(&self) -> usize {
@@ -82,9 +92,6 @@ impl<'a> Kinds for Book<'a> {
     }
 
     fn kind(&self, a: u32) -> Option<Kind> {
-        if a as usize >= self.len() {
-            return None;
-        }
-        Some(self.get(a).kind())
+        self.held().get(a as usize).map(|answer| answer.kind())
     }
 }

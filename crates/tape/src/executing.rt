@@ -1,7 +1,6 @@
-ghost use Rattle.std.specs.Prelude.{◌≡◌, ℕ, List};
+ghost use Rattle.std.specs.Prelude.{◌≡◌};
 ghost use Rattle.relations.specs.Meaning.{Ran, Adds, Leaves};
-ghost use Rattle.relations.specs.Script.{Script, run, whole, over};
-ghost use Rattle.command.specs.declared.answers.Answer.TheVariants.{Bit as in_bit};
+ghost use Rattle.relations.specs.Script.{run, whole};
 ghost use Rattle.command.specs.Answers.{action as action_of, action_script};
 ghost use Rattle.tape.specs.Book.{held_by};
 ghost use Rattle.readings.specs.State.{executed};
@@ -10,7 +9,7 @@ ghost use Rattle.tape.specs.State.{state_of};
 
 use crate::book::Book;
 use crate::circuit::Circuit;
-use boolean::{Boolean, BooleanCall};
+use boolean::BooleanCall;
 use command::{Action, Answer, Command, TapeFault, check, mode_of, value_of};
 use field::Field;
 use relations::{GadgetFault, System, call};
@@ -34,16 +33,6 @@ fn resolve(command: Command, book: &Book) -> Action
     }
 }
 
-/// A Boolean as an answer.
-fn as_answer(bit: Result<Boolean, GadgetFault>) -> Result<Answer, GadgetFault>
-    ensures { result ≡ over in_bit bit }
-{
-    match bit {
-        Ok(b) => Ok(Answer::Bit(b)),
-        Err(fault) => Err(fault),
-    }
-}
-
 /// The gadget's call that a command asks for.
 fn perform<F: Field, S: System<F>>(cs: &mut S, action: Action) -> Result<Answer, GadgetFault>
     ensures does { Ran (whole (run F.Field.modulus (action_script F.Field.modulus action))) (S.System.meaning cs.old) result (S.System.meaning cs.new) }
@@ -52,25 +41,8 @@ fn perform<F: Field, S: System<F>>(cs: &mut S, action: Action) -> Result<Answer,
 {
     match action {
         Action::Alias(answer) => Ok(answer),
-        Action::Bits(gadget) => as_answer(call(&gadget, cs)),
+        Action::Bits(gadget) => call(&gadget, cs).map(Answer::Bit),
     }
-}
-
-/// One command, by what decides before any gadget and the gadget's call.
-fn execute_steps<F: Field, S: System<F>>(
-    circuit: &mut Circuit<S>,
-    command: Command,
-) -> Result<(), TapeFault>
-    ensures does { executed F.Field.modulus command (state_of S.System.meaning circuit.old) ≡ (result, state_of S.System.meaning circuit.new) }
-    ensures adds { Adds (S.System.meaning circuit.old.system) (S.System.stored circuit.old.system) (S.System.meaning circuit.new.system) (S.System.stored circuit.new.system) }
-    ensures leaves { Leaves result (S.System.stored circuit.old.system) (S.System.stored circuit.new.system) }
-{
-    let places = circuit.book.places();
-    check(command, &circuit.book, places)?;
-    let action = resolve(command, &circuit.book);
-    let answer = perform(&mut circuit.system, action)?;
-    circuit.book.push(answer);
-    Ok(())
 }
 
 /// One command: accepted or refused as the rules decide. A refusal leaves the system, its words and the book as they were; and where a
@@ -85,5 +57,10 @@ pub fn execute<F: Field, S: System<F>>(
     ensures unchanged { Unchanged result (state_of S.System.meaning circuit.old) (state_of S.System.meaning circuit.new) }
     ensures runs { (h : History) → Running F.Field.modulus h (state_of S.System.meaning circuit.old) → Stepped F.Field.modulus h command (state_of S.System.meaning circuit.old) (state_of S.System.meaning circuit.new) result }
 {
-    execute_steps(circuit, command)
+    let places = circuit.book.places();
+    check(command, &circuit.book, places)?;
+    let action = resolve(command, &circuit.book);
+    let answer = perform(&mut circuit.system, action)?;
+    circuit.book.push(answer)?;
+    Ok(())
 }

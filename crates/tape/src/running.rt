@@ -1,4 +1,4 @@
-ghost use Rattle.std.specs.Prelude.{◌≡◌, ℕ, List, []};
+ghost use Rattle.std.specs.Prelude.{◌≡◌, []};
 ghost use Rattle.relations.specs.Meaning.{Adds, Fresh};
 ghost use Rattle.readings.specs.Runs.{History, Running};
 ghost use Rattle.tape.specs.Book.{held_by};
@@ -25,17 +25,11 @@ fn next_command<F: Field, S: System<F>>(
 {
     refused.reserve(1)?;
     let Some(next) = decode(rest) else {
-        refused.push_reserved(Refused {
-            command: number,
-            refusal: TapeFault::Unknown.into(),
-        });
+        refused.push_reserved(Refused::new(number, TapeFault::Unknown));
         return Ok(None);
     };
     if let Err(fault) = execute(circuit, next.command) {
-        refused.push_reserved(Refused {
-            command: number,
-            refusal: fault.into(),
-        });
+        refused.push_reserved(Refused::new(number, fault));
     }
     Ok(Some(next.length))
 }
@@ -53,19 +47,15 @@ pub fn run<F: Field, S: System<F>>(
     ensures runs { (g : History) → Running F.Field.modulus g (state_of S.System.meaning circuit.old) → Taped F.Field.modulus most tape.now g (state_of S.System.meaning circuit.old) (state_of S.System.meaning circuit.new) result refused.old.items refused.new.items }
     ensures fresh { Fresh (S.System.meaning circuit.old.system) → held_by circuit.old.book ≡ [] → Taped F.Field.modulus most tape.now [] (state_of S.System.meaning circuit.old) (state_of S.System.meaning circuit.new) result refused.old.items refused.new.items }
 {
-    let mut at: usize = 0;
-    let mut count: u32 = 0;
-    while count < most {
-        if at >= tape.len() {
-            return Ok(count);
+    let mut rest = tape;
+    for number in 0..most {
+        if rest.is_empty() {
+            return Ok(number);
         }
-        match next_command(circuit, &tape[at..], count, refused)? {
-            None => return Ok(count),
-            Some(length) => {
-                at += length;
-                count += 1;
-            }
-        }
+        let Some(length) = next_command(circuit, rest, number, refused)? else {
+            return Ok(number);
+        };
+        rest = &rest[length..];
     }
-    Ok(count)
+    Ok(most)
 }
