@@ -10,12 +10,14 @@ use Rattle.relations.specs.Meaning.{Ran, new_variable, has_all, has_row, assigne
 use Rattle.relations.specs.declared.term.Side.TheVariants.{Input as input, Witness as witness}
 use Rattle.relations.specs.declared.fault.SystemFault.{SystemFault}
 use Rattle.relations.specs.Script.{over}
+use Rattle.words.specs.declared.merge.Sizes.{Sizes}
 use Rattle.words.specs.Words.{tabulate, whole, combinations, combo, rows, meant, triple, floor, Placed, lists_in, triples_in, LcWritten, RowWritten}
 use Rattle.words.specs.State.{State, Fit, view, with_lc, with_row}
 use Rattle.words.proofs.Tables.{tabulate_same, tabulate_more}
 use Rattle.words.proofs.Values.{stored_means}
 use Rattle.words.proofs.Areas.{chain_same, chain_more, tagged_same, tagged_more, combinations_same, combinations_more, rows_same, rows_more, stack_same, stack_more, floor_same, floor_more}
-use Rattle.words.proofs.Cuts.{both, lists_in_append, triples_in_append, lists_in_more, triples_in_more, all_in_more}
+use Rattle.std.proofs.lemmas.Bool.{and_parts}
+use Rattle.words.proofs.Cuts.{lists_in_append, triples_in_append, lists_in_more, triples_in_more, all_in_more}
 use Rattle.words.proofs.There.{merged_in, stored_free}
 use Rattle.systems.specs.Held.{Sized, Refused}
 use Rattle.systems.proofs.Views.{inputs_long, witnesses_long, rows_long, places_are, used_is, has_all_in}
@@ -281,8 +283,8 @@ lc_new s ts n kept vs f e q h k b l x =
 -- what a row names is there where each of its sums names what is there
 pub each_known : (s : State) (a b c : List Term) → has_row (view s) a b c ≡ true → (has_all (view s) a ≡ true) × (has_all (view s) b ≡ true) × (has_all (view s) c ≡ true)
 each_known s a b c e =
-    let x = both (has_all (view s) a) _ e in
-    let y = both (has_all (view s) b) (has_all (view s) c) x.1 in
+    let x = and_parts (has_all (view s) a) _ e in
+    let y = and_parts (has_all (view s) b) (has_all (view s) c) x.1 in
     (x.0, y.0, y.1)
 
 pub row_terms_full : (s : State) (a b c : List Term) (la lb lc : ℕ) → Fit s → has_row (view s) a b c ≡ true → la ≡ length (whole s.modulus a) → lb ≡ length (whole s.modulus b) → lc ≡ length (whole s.modulus c) → s.back - s.front < la + lb + lc → Refused s a b c TermsFull
@@ -302,8 +304,8 @@ row_admitted s a b c la lb lc f x =
     let z = sized_room s a b c la lb lc f x in
     rw (t, z)
 
-pub admitted : (s : State) (a b c : List Term) (r : Result (ℕ × ℕ × ℕ) SystemFault) (q : Result (Unit {0}) SystemFault) → Fit s → MatchResult r (λ n. Sized s a b c n.0 n.1 n.2) (Refused s a b c) → q ≡ over (λ n. tt) r → q ≡ (admit s.modulus a b c (view s)).0
-admitted s a b c (Ok n) q f h e = e ∙ sym (ap (λ x. x.0) (row_admitted s a b c n.0 n.1 n.2 f h))
+pub admitted : (s : State) (a b c : List Term) (r : Result Sizes SystemFault) (q : Result (Unit {0}) SystemFault) → Fit s → MatchResult r (λ n. Sized s a b c n.a n.b n.c) (Refused s a b c) → q ≡ over (λ n. tt) r → q ≡ (admit s.modulus a b c (view s)).0
+admitted s a b c (Ok n) q f h e = e ∙ sym (ap (λ x. x.0) (row_admitted s a b c n.a n.b n.c f h))
 admitted s a b c (Err k) q f h e = e ∙ sym (ap (λ x. x.0) h.admits)
 
 pub row_full : (s : State) (a b c : List Term) (la lb lc : ℕ) → Fit s → Sized s a b c la lb lc → s.row_room ≤ s.count → Done (enforce s.modulus a b c) s (Err RowsFull) s

@@ -5,3 +5,4 @@ pub mod Variables
 pub mod Rewinds
 pub mod Unmet
 pub mod Outline
+pub mod Readers

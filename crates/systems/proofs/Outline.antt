@@ -11,13 +11,15 @@ use Rattle.words.specs.State.{State, Fit, view}
 use Rattle.words.proofs.Cuts.{lies}
 use Rattle.words.proofs.Tables.{tabulate_same, tabulate_length}
 use Rattle.written.specs.declared.Counts.{Counts}
-use Rattle.written.specs.Cells.{cells, Over, Readable, written_out}
+use Rattle.written.specs.declared.writer.Writer.{Writer}
+use Rattle.written.specs.Cells.{cells, Lies, Over, Readable, written_out}
 use Rattle.written.proofs.Rows.{readable}
 use Rattle.systems.specs.declared.rooms.OutlineFault.{OutlineFault}
 use Rattle.systems.specs.declared.rooms.OutlineFault.TheVariants.{NoSuchRow, TooShort}
 use Rattle.systems.specs.declared.store.Part.{Part}
 use Rattle.systems.specs.declared.store.Part.TheVariants.{A, B, C}
 use Rattle.systems.proofs.Views.{rows_long}
+use Rattle.systems.specs.Read.{Writing}
 use Rattle.systems.specs.Outline.{place, outline, working, width, placed, coefficients, row_sum, outlining}
 use Rattle.systems.proofs.Unmet.{row_is}
 
@@ -122,3 +124,14 @@ written_out_fits s i l h k =
     let t : ltb i (length (view s).rows) ≡ true = lt-ltb i _ (omega (arith, rows_long s)) in
     let z : leb (working s) l ≡ true = le-leb (working s) l k in
     sym (rw (t, z))
+
+-- ---- through a writer
+pub part_lies_read : (s : State) (part : Part) (i at : ℕ) (ws : List ℕ) → at ≡ place part i → ws ≡ s.term_words → Fit s → i < s.count → Lies (get_or s.row_words at 0) (get_or s.row_words (at + 1) 0) ws
+part_lies_read s part i at ws ea e f h =
+    subst (λ (vs : List ℕ). Lies (get_or s.row_words at 0) (get_or s.row_words (at + 1) 0) vs) (sym e) (part_readable s part i at (outline s) ea refl f h).terms
+
+pub outlined_read : (s : State) (part : Part) (i at : ℕ) (w : Writer) (os qs : List ℕ) → at ≡ place part i → Writing s w → i < s.count → length qs ≡ length os → cells w.counts ≤ length os →
+    Over w.counts (written_out w.modulus w.counts (get_or s.row_words at 0) (get_or s.row_words (at + 1) 0) w.terms.now) os qs → Outlined s part i os qs
+outlined_read s part i at w os qs ea e h q l o =
+    outlined s part i at (outline s) os qs ea refl h q (subst (λ (m : Counts). cells m ≤ length os) e.counts l)
+    (subst (λ (x : Type 0). x) (λ j. Over (e.counts j) (written_out (e.modulus j) (e.counts j) (get_or s.row_words at 0) (get_or s.row_words (at + 1) 0) (e.terms j)) os qs) o)

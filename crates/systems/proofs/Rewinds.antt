@@ -1,15 +1,17 @@
 -- A cut of a system over words does its step.
-use Rattle.std.proofs.Common.{◌≡◌, ℕ, ◌+◌, ◌<◌, ◌≤◌, Bool, true, false, ◌&&◌, leb, map, length, get_or, take, Some, Ok, Err, Result, sym, refl, ap, ◌∙◌, arith, le-leb}
+use Rattle.std.proofs.Common.{◌≡◌, ℕ, ◌+◌, ◌<◌, ◌≤◌, Bool, true, false, ◌&&◌, leb, map, length, get_or, take, Some, Ok, Err, Result, sym, refl, ap, ◌∙◌, arith, le-leb, List, subst}
 use borrow.Author.Tests.{lt-leb}
 use Rattle.std.proofs.lemmas.List.{take-map}
 use Rattle.relations.specs.declared.fault.SystemFault.{SystemFault}
 use Rattle.relations.specs.declared.fault.SystemFault.TheVariants.{MarkRefused}
 use Rattle.relations.specs.Meaning.{Ran, places, combos_within, rows_within, may_cut, rewind, Cuts}
-use Rattle.words.specs.Words.{combinations, combo, Chain, rows, meant, lists_in, triples_in}
+use Rattle.words.specs.declared.scan.Combinations.{Combinations}
+use Rattle.words.specs.Words.{combinations, combo, Chain, rows, meant, lists_in, triples_in, Tagged}
 use Rattle.words.specs.State.{State, Fit, view, words_of}
 use Rattle.words.proofs.Tables.{tabulate_take}
 use Rattle.words.proofs.Areas.{combinations_used, floor_below}
 use Rattle.words.proofs.Cuts.{combos_are, rows_are, rows_take, stack_take, floor_take}
+use Rattle.systems.specs.Read.{CombinationsRead}
 use Rattle.systems.specs.Held.{CutAt, Barred}
 use Rattle.systems.proofs.Views.{inputs_long, witnesses_long, lcs_long, rows_long}
 use Rattle.systems.proofs.Grown.{kept_words}
@@ -121,3 +123,18 @@ done s i w k r end low f x =
     ran =
         let t = x.allowed in
         rw t (λ j. (Ok tt, record { keeps = true; inputs = tabulate_take i s.inputs (λ n. Some (get_or s.value_words n 0)) x.i_in j; witnesses = tabulate_take w s.witnesses (λ n. Some (get_or s.value_words (s.input_room + n) 0)) x.w_in j; combos = taken s k end x.cut j; rows = taken_rows s r x.r_in j; input_room = s.input_room; witness_room = s.witness_room; term_room = s.term_room; row_room = s.row_room; capped = false }))
+
+-- ---- the first k combinations, as they are read
+pub record Firsts (s : State) (k end : ℕ) : Type 0 where
+  pub below : end ≤ s.front
+  pub chain : Chain k end s.term_words
+  pub tagged : Tagged s.modulus k end s.term_words
+  pub cut : take k (combinations s.lcs s.front s.term_words) ≡ combinations k end s.term_words
+
+pub firsts : (s : State) (c d : Combinations) (k : ℕ) → Fit s → CombinationsRead s c → d.left ≡ k → d.words.now ≡ c.words.now → d.end ≤ c.end → ((p : ℕ) → Tagged p c.left c.end c.words.now → Tagged p k d.end c.words.now) → take k (combinations c.left c.end c.words.now) ≡ combinations k d.end c.words.now → Firsts s k d.end
+firsts s c d k f e n w l t q = record {
+  below = subst (λ (x : ℕ). d.end ≤ x) e.end l;
+  chain = subst (λ (x : ℕ). Chain x d.end s.term_words) n (subst (λ (ws : List ℕ). Chain d.left d.end ws) (w ∙ e.words) d.chain);
+  tagged = subst (λ (ws : List ℕ). Tagged s.modulus k d.end ws) e.words (t s.modulus (subst (λ (x : Type 0). x) (λ i. Tagged s.modulus (sym e.left i) (sym e.end i) (sym e.words i)) f.tagged));
+  cut = subst (λ (x : Type 0). x) (λ i. take k (combinations (e.left i) (e.end i) (e.words i)) ≡ combinations k d.end (e.words i)) q;
+}

@@ -4,3 +4,4 @@ pub mod Held
 pub mod Opening
 pub mod Outline
 pub mod Unmet
+pub mod Read

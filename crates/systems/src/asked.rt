@@ -7,7 +7,7 @@ use crate::rooms::Counts;
 use crate::valued::Valued;
 use field::Field;
 use relations::{Mark, Side, System, SystemFault, Term, Variable};
-use words::merge;
+use words::merge::{HandedRow, Merged};
 
 impl<'a, F: Field> System<F> for Valued<'a, F> {
     ghost meaning = { meant_by };
@@ -54,16 +54,17 @@ impl<'a, F: Field> System<F> for Valued<'a, F> {
     }
 
     fn new_lc(&mut self, terms: &[Term]) -> Result<Variable, SystemFault> {
-        let (front, p) = (self.store.front, self.store.modulus);
+        let (front, modulus) = (self.store.front, self.store.modulus);
         if !self.has_all(terms) {
             return Err(SystemFault::UnknownVariable);
         }
-        let n = merge::merged_len(p, terms);
+        let sum = Merged { modulus, terms };
+        let n = sum.len();
         if n >= self.store.back - front {
             return Err(SystemFault::TermsFull);
         }
         let kept = self.worth(terms);
-        self.store.add_combination(n, terms, kept);
+        self.store.add_combination(sum, n, kept);
         Ok(Variable::Combination((front + n) as u32))
     }
 
@@ -73,16 +74,20 @@ impl<'a, F: Field> System<F> for Valued<'a, F> {
         b: &[Term],
         c: &[Term],
     ) -> Result<(), SystemFault> {
-        let (la, lb, lc) = self.sizes(a, b, c)?;
+        let modulus = self.store.modulus;
+        let row = HandedRow { modulus, a, b, c };
+        let sizes = self.sizes(row)?;
         if self.store.count >= self.store.row_room {
             return Err(SystemFault::RowsFull);
         }
-        self.store.add_row(a, b, c, la, lb, lc);
+        self.store.add_row(row, sizes);
         Ok(())
     }
 
     fn admits(&self, a: &[Term], b: &[Term], c: &[Term]) -> Result<(), SystemFault> {
-        self.sizes(a, b, c).map(|_| ())
+        let modulus = self.store.modulus;
+        let row = HandedRow { modulus, a, b, c };
+        self.sizes(row).map(|_| ())
     }
 
     fn value(&self, variable: Variable) -> Result<Option<F>, SystemFault> {

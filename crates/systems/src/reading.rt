@@ -3,6 +3,7 @@ ghost use Rattle.relations.specs.declared.fault.SystemFault.TheVariants.{MarkRef
 ghost use Rattle.relations.specs.Sum.{sum_of, all_in};
 ghost use Rattle.relations.specs.Meaning.{has, has_all, has_row, assigned};
 ghost use Rattle.words.specs.Words.{pairs, plain, rows as stored_rows, row_at, meant, triples_in};
+ghost use Rattle.systems.specs.Read.{Reading, RowsRead, CombinationsRead, Writing};
 ghost use Rattle.systems.specs.Held.{state, meant_by, Sized, Refused, CutAt, Barred};
 ghost use Rattle.systems.specs.Unmet.{met, first_unmet};
 ghost use Rattle.systems.specs.Outline.{outline, width, working, row_sum, coefficients, outlining};
@@ -12,7 +13,10 @@ use crate::store::{Part, place, takes};
 use crate::valued::Valued;
 use field::Field;
 use relations::{SystemFault, Term, Variable};
-use words::{merge, read, scan};
+use words::merge::{HandedRow, Sizes};
+use words::read::{Reader, code_of, multiply_add};
+use words::scan::{Bounds, Combinations, Rows};
+use written::writer::Writer;
 
 /// Where the combinations end and the terms of rows begin.
 pub(crate) struct Ends {
@@ -36,30 +40,63 @@ impl<'a, F: Field> Valued<'a, F> {
         }
     }
 
+    // The words, as they are read.
+    fn reader(&self) -> Reader<'_>
+        ensures { Reading (state self.now) result }
+    {
+        Reader {
+            values: self.values,
+            terms: self.store.terms,
+            input_room: self.store.input_room,
+            inputs: self.store.inputs,
+            witnesses: self.store.witnesses,
+            front: self.store.front,
+            modulus: self.store.modulus,
+        }
+    }
+
+    // The rows, as they are read.
+    fn rows(&self) -> Rows<'_>
+        ensures { RowsRead (state self.now) result }
+    {
+        Rows {
+            words: self.store.rows,
+            terms: self.store.terms,
+            top: self.store.term_room,
+            count: self.store.count,
+        }
+    }
+
+    // The combinations, as they are read.
+    fn combinations(&self) -> Combinations<'_>
+        ensures { CombinationsRead (state self.now) result }
+    {
+        Combinations {
+            words: self.store.terms,
+            left: self.store.combinations,
+            end: self.store.front,
+        }
+    }
+
     // Whether a variable is there.
     pub(crate) fn has(&self, variable: Variable) -> bool
         ensures { result ≡ has (meant_by self.now) variable }
     {
-        read::is_there(
-            self.store.terms,
-            self.store.inputs,
-            self.store.witnesses,
-            self.store.front,
-            variable,
-        )
+        self.reader().has(variable)
     }
 
     // Whether all variables of some terms are.
     pub(crate) fn has_all(&self, ts: &[Term]) -> bool
         ensures { result ≡ has_all (meant_by self.now) ts.now }
     {
-        read::are_there(
-            self.store.terms,
-            self.store.inputs,
-            self.store.witnesses,
-            self.store.front,
-            ts,
-        )
+        self.reader().has_all(ts)
+    }
+
+    // Whether all variables of a row's sums are.
+    fn has_row(&self, row: HandedRow) -> bool
+        ensures { result ≡ has_row (meant_by self.now) row.entry.a.now row.entry.b.now row.entry.c.now }
+    {
+        self.has_all(row.a) && self.has_all(row.b) && self.has_all(row.c)
     }
 
     // The number that is kept for a variable that is there.
@@ -69,15 +106,7 @@ impl<'a, F: Field> Valued<'a, F> {
     {
         match variable {
             Variable::Zero => 0,
-            _ => read::word_at(
-                self.values,
-                self.store.terms,
-                self.store.input_room,
-                self.store.inputs,
-                self.store.witnesses,
-                self.store.front,
-                read::code_of(variable),
-            ),
+            _ => self.reader().word(code_of(variable)),
         }
     }
 
@@ -87,55 +116,18 @@ impl<'a, F: Field> Valued<'a, F> {
         ensures is { result ≡ (sum_of self.now.store.modulus ts.now).value (assigned (meant_by self.now)) }
         ensures below { result < self.now.store.modulus }
     {
-        read::worth_of(
-            self.values,
-            self.store.terms,
-            self.store.input_room,
-            self.store.inputs,
-            self.store.witnesses,
-            self.store.front,
-            self.store.modulus,
-            ts,
-        )
-    }
-
-    // The value of the `len` stored terms from the place `start` on.
-    pub(crate) fn worth_at(&self, start: usize, len: usize) -> u32
-        requires inside { start + len ≤ self.now.store.term_room }
-        requires named { all_in self.now.store.inputs self.now.store.witnesses self.now.store.front (pairs start len self.now.store.terms.now) ≡ true }
-        ensures { result ≡ (plain self.now.store.modulus (pairs start len self.now.store.terms.now)).value (assigned (meant_by self.now)) }
-    {
-        read::worth_at(
-            self.values,
-            self.store.terms,
-            self.store.input_room,
-            self.store.inputs,
-            self.store.witnesses,
-            self.store.front,
-            self.store.modulus,
-            start,
-            len,
-        )
+        self.reader().worth(ts)
     }
 
     // Whether the kept values meet row i.
-    pub(crate) fn row_met(&self, i: usize) -> bool
+    fn row_met(&self, i: usize) -> bool
         requires { i < self.now.store.count }
         ensures { result ≡ met self.now.store.modulus (assigned (meant_by self.now)) (meant self.now.store.modulus (row_at i self.now.store.rows.now self.now.store.terms.now)) }
     {
-        let a = self.worth_at(
-            self.store.rows[6 * i] as usize,
-            self.store.rows[6 * i + 1] as usize,
-        );
-        let b = self.worth_at(
-            self.store.rows[6 * i + 2] as usize,
-            self.store.rows[6 * i + 2 + 1] as usize,
-        );
-        let c = self.worth_at(
-            self.store.rows[6 * i + 4] as usize,
-            self.store.rows[6 * i + 4 + 1] as usize,
-        );
-        read::multiply_add(self.store.modulus, a, b, 0) == c
+        let reader = self.reader();
+        let row = self.rows().row(i);
+        let (a, b) = (reader.worth_stored(row.a), reader.worth_stored(row.b));
+        multiply_add(self.store.modulus, a, b, 0) == reader.worth_stored(row.c)
     }
 
     /// The number of the first row that the kept values do not meet.
@@ -150,15 +142,19 @@ impl<'a, F: Field> Valued<'a, F> {
         None
     }
 
-    // How much there is to write a sum out over.
-    pub(crate) fn outline(&self) -> written::Counts
-        ensures { result ≡ outline (state self.now) }
+    // The terms, whose sums are written out.
+    fn writer(&self) -> Writer<'_>
+        ensures { Writing (state self.now) result }
     {
-        written::Counts {
-            inputs: self.store.inputs,
-            witnesses: self.store.witnesses,
-            lcs: self.store.combinations,
-            front: self.store.front,
+        Writer {
+            terms: self.store.terms,
+            counts: written::Counts {
+                inputs: self.store.inputs,
+                witnesses: self.store.witnesses,
+                lcs: self.store.combinations,
+                front: self.store.front,
+            },
+            modulus: self.store.modulus,
         }
     }
 
@@ -183,104 +179,50 @@ impl<'a, F: Field> Valued<'a, F> {
             return Err(OutlineFault::NoSuchRow);
         }
         let at = place(row, part);
-        let (start, len) = (
-            self.store.rows[at] as usize,
-            self.store.rows[at + 1] as usize,
-        );
-        if written::write_out(
-            out,
-            self.store.terms,
-            self.outline(),
-            self.store.modulus,
-            start,
-            len,
-        ) {
-            Ok(())
-        } else {
-            Err(OutlineFault::TooShort)
-        }
-    }
-
-    // Whether all variables of a row's sums are.
-    pub(crate) fn has_row(&self, a: &[Term], b: &[Term], c: &[Term]) -> bool
-        ensures { result ≡ has_row (meant_by self.now) a.now b.now c.now }
-    {
-        self.has_all(a) && self.has_all(b) && self.has_all(c)
+        let (start, len) = (self.store.rows[at], self.store.rows[at + 1]);
+        self.writer().write_out(out, start as usize, len as usize)?;
+        Ok(())
     }
 
     // How many terms the parts of a row take, if its variables are there and its terms find room.
-    pub(crate) fn sizes(
-        &self,
-        a: &[Term],
-        b: &[Term],
-        c: &[Term],
-    ) -> Result<(usize, usize, usize), SystemFault>
-        ensures { MatchResult result (λ n. Sized (state self.now) a.now b.now c.now n.0 n.1 n.2) (Refused (state self.now) a.now b.now c.now) }
+    pub(crate) fn sizes(&self, row: HandedRow) -> Result<Sizes, SystemFault>
+        requires { row.modulus ≡ self.now.store.modulus }
+        ensures { MatchResult result (λ n. Sized (state self.now) row.entry.a.now row.entry.b.now row.entry.c.now n.a n.b n.c) (Refused (state self.now) row.entry.a.now row.entry.b.now row.entry.c.now) }
     {
-        if !self.has_row(a, b, c) {
+        if !self.has_row(row) {
             return Err(SystemFault::UnknownVariable);
         }
-        let la = merge::merged_len(self.store.modulus, a);
-        let lb = merge::merged_len(self.store.modulus, b);
-        let lc = merge::merged_len(self.store.modulus, c);
-        if !takes(self.store.back - self.store.front, la, lb, lc) {
+        let sizes = row.sizes();
+        if !takes(self.store.back - self.store.front, sizes) {
             return Err(SystemFault::TermsFull);
         }
-        Ok((la, lb, lc))
-    }
-
-    // Whether the first r rows name only the first i inputs, the first w witnesses and headings below place e.
-    pub(crate) fn rows_in(&self, r: usize, i: usize, w: usize, e: usize) -> bool
-        requires { r ≤ self.now.store.count }
-        ensures { result ≡ triples_in i w e (stored_rows r self.now.store.rows.now self.now.store.terms.now) }
-    {
-        scan::rows_in(
-            self.store.rows,
-            self.store.terms,
-            self.store.term_room,
-            self.store.count,
-            r,
-            i,
-            w,
-            e,
-        )
+        Ok(sizes)
     }
 
     // Where the lists end if they are cut to these counts, unless that is refused.
     pub(crate) fn cut(&self, to: Counts) -> Result<Ends, SystemFault>
         ensures { MatchResult result (λ e. CutAt (state self.now) to.inputs to.witnesses to.combinations to.rows e.front e.back) (λ f. (f ≡ MarkRefused) × Barred (state self.now) to.inputs to.witnesses to.combinations to.rows) }
     {
-        let Counts {
-            inputs,
-            witnesses,
-            combinations,
-            rows,
-        } = to;
-        if inputs > self.store.inputs
-            || witnesses > self.store.witnesses
-            || combinations > self.store.combinations
-            || rows > self.store.count
+        if to.inputs > self.store.inputs
+            || to.witnesses > self.store.witnesses
+            || to.combinations > self.store.combinations
+            || to.rows > self.store.count
         {
             return Err(SystemFault::MarkRefused);
         }
-        let front = scan::end_of(
-            self.store.terms,
-            self.store.combinations,
-            self.store.front,
-            combinations,
-        );
-        if !scan::combinations_in(
-            self.store.terms,
-            combinations,
-            front,
-            inputs,
-            witnesses,
-            front,
-        ) || !self.rows_in(rows, inputs, witnesses, front)
-        {
+        let combinations = self.combinations().first(to.combinations);
+        let rows = self.rows();
+        let bounds = Bounds {
+            inputs: to.inputs,
+            witnesses: to.witnesses,
+            places: combinations.end,
+        };
+        if !bounds.has_combinations(combinations) || !bounds.has_rows(&rows, to.rows) {
             return Err(SystemFault::MarkRefused);
         }
-        let back = scan::floor_of(self.store.rows, self.store.term_room, rows);
-        Ok(Ends { front, back })
+        Ok(Ends {
+            front: combinations.end,
+            back: rows.floor(to.rows),
+        })
     }
 }

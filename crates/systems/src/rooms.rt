@@ -1,4 +1,5 @@
 ghost use Rattle.std.specs.Prelude.{◌≡◌, length, Some as some, MatchResult};
+ghost use Rattle.systems.specs.declared.rooms.OutlineFault.TheVariants.{TooShort as too_short};
 ghost use Rattle.systems.specs.Opening.{of_opening, opening, Opened};
 
 use crate::store::Store;
@@ -6,6 +7,7 @@ use crate::valued::Valued;
 use field::Field;
 use relations::Refusal;
 use std::marker::PhantomData;
+use written::writer::TooShort;
 
 /// How much of each a system takes.
 #[derive(Clone, Copy)]
@@ -39,6 +41,14 @@ pub enum OpenFault {
 pub enum OutlineFault {
     NoSuchRow,
     TooShort,
+}
+
+impl From<TooShort> for OutlineFault {
+    ghost from_gives = { λ _ r. r ≡ too_short };
+
+    fn from(fault: TooShort) -> OutlineFault {
+        OutlineFault::TooShort
+    }
 }
 
 impl From<OpenFault> for Refusal {

@@ -3,8 +3,7 @@ ghost use Rattle.words.specs.Words.{LcFits, PartsFit};
 ghost use Rattle.systems.specs.Stores.{LcAdded, RowAdded};
 ghost use Rattle.systems.specs.Outline.{place};
 
-use relations::Term;
-use words::merge;
+use words::merge::{HandedRow, Merged, Sizes};
 
 /// One of the three sums of a row: the product of A and B is C.
 #[derive(Clone, Copy)]
@@ -33,11 +32,11 @@ pub struct Store<'a> {
     pub(crate) row_room: usize,
 }
 
-/// Whether three sums fit into the room.
-pub(crate) fn takes(room: usize, la: usize, lb: usize, lc: usize) -> bool
-    ensures { result ≡ nat_le (la + lb + lc) room }
+/// Whether the parts of a row fit into the room.
+pub(crate) fn takes(room: usize, sizes: Sizes) -> bool
+    ensures { result ≡ nat_le (sizes.a + sizes.b + sizes.c) room }
 {
-    la <= room && lb <= room - la && lc <= room - la - lb
+    sizes.a <= room && sizes.b <= room - sizes.a && sizes.c <= room - sizes.a - sizes.b
 }
 
 /// Where a part of a row stands in the words of rows: the place of its first term, and in the next word how many there are.
@@ -54,35 +53,29 @@ pub(crate) fn place(row: usize, part: Part) -> usize
 
 impl<'a> Store<'a> {
     // Writes a combination of n terms with its kept value after the last one.
-    pub(crate) fn add_combination(&mut self, n: usize, ts: &[Term], kept: u32)
-        requires fits { LcFits self.old.modulus self.old.front n kept ts.now self.old.terms.now }
+    pub(crate) fn add_combination(&mut self, terms: Merged, n: usize, kept: u32)
+        requires fits { LcFits terms.modulus self.old.front n kept terms.terms.now self.old.terms.now }
         requires few { self.old.combinations ≤ 65536 }
-        ensures { LcAdded n kept ts.now self.old self.new }
+        requires modulus { terms.modulus ≡ self.old.modulus }
+        ensures { LcAdded n kept terms.entry.terms.now self.old self.new }
     {
-        let (front, p, combinations) = (self.front, self.modulus, self.combinations);
-        merge::write_combination(self.terms, front, n, p, ts, kept);
+        let (front, combinations) = (self.front, self.combinations);
+        terms.write_combination(self.terms, front, n, kept);
         self.front = front + n + 1;
         self.combinations = combinations + 1;
     }
 
-    // Writes a row of la, lb and lc terms after the last one.
-    pub(crate) fn add_row(
-        &mut self,
-        a: &[Term],
-        b: &[Term],
-        c: &[Term],
-        la: usize,
-        lb: usize,
-        lc: usize,
-    )
-        requires parts { PartsFit self.old.modulus self.old.back la lb lc a.now b.now c.now self.old.terms.now }
+    // Writes a row whose parts have these sizes after the last one.
+    pub(crate) fn add_row(&mut self, row: HandedRow, sizes: Sizes)
+        requires parts { PartsFit row.modulus self.old.back sizes.a sizes.b sizes.c row.a.now row.b.now row.c.now self.old.terms.now }
         requires words { (self.old.count < 65536) × (6 * self.old.count + 6 ≤ length self.old.rows.now) }
-        ensures { RowAdded la lb lc a.now b.now c.now self.old self.new }
+        requires modulus { row.modulus ≡ self.old.modulus }
+        ensures { RowAdded sizes.a sizes.b sizes.c row.entry.a.now row.entry.b.now row.entry.c.now self.old self.new }
     {
-        let (count, back, p) = (self.count, self.back, self.modulus);
-        merge::write_parts(self.terms, back, p, a, b, c, la, lb, lc);
-        merge::write_places(self.rows, count, back, la, lb, lc);
-        self.back = back - la - lb - lc;
+        let (count, back) = (self.count, self.back);
+        row.write(self.terms, back, sizes);
+        sizes.write_places(self.rows, count, back);
+        self.back = back - sizes.a - sizes.b - sizes.c;
         self.count = count + 1;
     }
 }

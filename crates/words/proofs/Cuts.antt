@@ -1,24 +1,14 @@
 -- Reading lists from their ends, and cutting them.
 use Rattle.std.proofs.Common.{◌≡◌, ℕ, zero, suc, ◌+◌, ◌-◌, ◌*◌, ◌/◌, ◌%◌, ◌<◌, ◌≤◌, Bool, true, false, cond, ◌&&◌, eqb, ltb, List, [], ◌∷◌, ◌++◌, map, get_or, take, sym, refl, ap, ◌∙◌, subst, inl, inr, eq-or-lt_of_le, arith, ltb-true, lt-ltb, add-one, Option, None, Some, MatchOption}
+use Rattle.std.proofs.Math.Bool.{and-true, and-false, and_assoc}
+use Rattle.std.proofs.lemmas.Bool.{and_parts}
 use Rattle.std.proofs.lemmas.List.{take-append-le, take_all}
 use Rattle.relations.specs.Sum.{Pairs, code_in, all_in}
 use Rattle.relations.specs.Meaning.{combos_within, rows_within}
-use Rattle.words.specs.Words.{pairs, Kept, combination, combo, heading, combinations, Chain, Tagged, TakenOff, Triple, row_at, rows, floor, Stack, meant, lists_in, triple_in, triples_in}
+use Rattle.words.specs.Words.{Kept, combination, combo, heading, combinations, Chain, Tagged, TakenOff, Triple, row_at, rows, floor, Stack, meant, lists_in, triple_in, triples_in}
 use Rattle.words.proofs.Areas.{combinations_length, rows_length, floor_below}
 
 -- the test of a list by its last
-and_assoc : (a b c : Bool) → (a && b) && c ≡ a && (b && c)
-and_assoc true b c = refl
-and_assoc false b c = refl
-
-pub and_true : (a : Bool) → a && true ≡ a
-and_true true = refl
-and_true false = refl
-
-pub and_false : (a : Bool) → a && false ≡ false
-and_false true = refl
-and_false false = refl
-
 pub all_in_append : (ni nw ne : ℕ) (xs ys : Pairs) → all_in ni nw ne (xs ++ ys) ≡ all_in ni nw ne xs && all_in ni nw ne ys
 all_in_append ni nw ne [] ys = refl
 all_in_append ni nw ne (x ∷ xs) ys = ap (λ (b : Bool). code_in ni nw ne x.0 && b) (all_in_append ni nw ne xs ys) ∙ sym (and_assoc (code_in ni nw ne x.0) (all_in ni nw ne xs) (all_in ni nw ne ys))
@@ -33,24 +23,6 @@ triples_in_append ni nw ne (x ∷ xs) ys = ap (λ (b : Bool). triple_in ni nw ne
 
 less : (k : ℕ) → suc k - 1 ≡ k
 less k = omega arith
-
--- pairs
-pub pairs_last : (ni nw ne i m : ℕ) (ws : List ℕ) → 0 < m → all_in ni nw ne (pairs i m ws) ≡ all_in ni nw ne (pairs i (m - 1) ws) && code_in ni nw ne (get_or ws (2 * (i + (m - 1))) 0)
-pairs_last ni nw ne i zero ws h = absurd (omega arith)
-pairs_last ni nw ne i (suc m) ws h =
-    all_in_append ni nw ne (pairs i m ws) ((get_or ws (2 * (i + m)) 0, get_or ws (2 * (i + m) + 1) 0) ∷ [])
-    ∙ ap (λ (b : Bool). all_in ni nw ne (pairs i m ws) && b) (and_true (code_in ni nw ne (get_or ws (2 * (i + m)) 0)))
-    ∙ ap (λ (x : ℕ). all_in ni nw ne (pairs i x ws) && code_in ni nw ne (get_or ws (2 * (i + x)) 0)) (sym (less m))
-
-pub pairs_kept : (ni nw ne i m m' : ℕ) (ws : List ℕ) (b : Bool) → 0 < m → m' ≡ m - 1 → true ≡ code_in ni nw ne (get_or ws (2 * (i + m')) 0) → all_in ni nw ne (pairs i m ws) ≡ b → all_in ni nw ne (pairs i m' ws) ≡ b
-pairs_kept ni nw ne i m m' ws b h e t inv =
-    sym (and_true _) ∙ ap (λ (x : Bool). all_in ni nw ne (pairs i m' ws) && x) t
-    ∙ ap (λ (x : ℕ). all_in ni nw ne (pairs i x ws) && code_in ni nw ne (get_or ws (2 * (i + x)) 0)) e ∙ sym (pairs_last ni nw ne i m ws h) ∙ inv
-
-pub pairs_fail : (ni nw ne i m m' : ℕ) (ws : List ℕ) (b : Bool) → 0 < m → m' ≡ m - 1 → false ≡ code_in ni nw ne (get_or ws (2 * (i + m')) 0) → all_in ni nw ne (pairs i m ws) ≡ b → false ≡ b
-pairs_fail ni nw ne i m m' ws b h e t inv =
-    sym (and_false _) ∙ ap (λ (x : Bool). all_in ni nw ne (pairs i m' ws) && x) t
-    ∙ ap (λ (x : ℕ). all_in ni nw ne (pairs i x ws) && code_in ni nw ne (get_or ws (2 * (i + x)) 0)) e ∙ sym (pairs_last ni nw ne i m ws h) ∙ inv
 
 -- combinations
 pub record Last (k end : ℕ) (ws : List ℕ) : Type 0 where
@@ -80,19 +52,19 @@ taken_lists : (ni nw ne left end : ℕ) (ws : List ℕ) (left' end' : ℕ) (ws' 
 taken_lists ni nw ne left end ws left' end' ws' place ts c t =
     ap (lists_in ni nw ne) (last left end ws t.some c).split
     ∙ lists_in_append ni nw ne (combinations (left - 1) (end - 1 - heading end ws) ws) (combination (end - 1 - heading end ws) (heading end ws) ws ∷ [])
-    ∙ (λ i. lists_in ni nw ne (combinations (sym t.fewer i) (sym t.lower i) (sym t.same i)) && (and_true _ ∙ ap (all_in ni nw ne) (sym t.terms)) i)
+    ∙ (λ i. lists_in ni nw ne (combinations (sym t.fewer i) (sym t.lower i) (sym t.same i)) && (and-true _ ∙ ap (all_in ni nw ne) (sym t.terms)) i)
 
 pub lists_kept : (ni nw ne left end : ℕ) (ws : List ℕ) (left' end' : ℕ) (ws' : List ℕ) (place : ℕ) (ts : Pairs) (b : Bool) → Chain left end ws → TakenOff left end ws left' end' ws' place ts → true ≡ all_in ni nw ne ts → lists_in ni nw ne (combinations left end ws) ≡ b → lists_in ni nw ne (combinations left' end' ws') ≡ b
 lists_kept ni nw ne left end ws left' end' ws' place ts b c t h inv =
-    sym (taken_lists ni nw ne left end ws left' end' ws' place ts c t ∙ ap (λ (x : Bool). lists_in ni nw ne (combinations left' end' ws') && x) (sym h) ∙ and_true _) ∙ inv
+    sym (taken_lists ni nw ne left end ws left' end' ws' place ts c t ∙ ap (λ (x : Bool). lists_in ni nw ne (combinations left' end' ws') && x) (sym h) ∙ and-true _) ∙ inv
 
 pub lists_fail : (ni nw ne left end : ℕ) (ws : List ℕ) (left' end' : ℕ) (ws' : List ℕ) (place : ℕ) (ts : Pairs) (b : Bool) → Chain left end ws → TakenOff left end ws left' end' ws' place ts → false ≡ all_in ni nw ne ts → lists_in ni nw ne (combinations left end ws) ≡ b → false ≡ b
 lists_fail ni nw ne left end ws left' end' ws' place ts b c t h inv =
-    sym (taken_lists ni nw ne left end ws left' end' ws' place ts c t ∙ ap (λ (x : Bool). lists_in ni nw ne (combinations left' end' ws') && x) (sym h) ∙ and_false _) ∙ inv
+    sym (taken_lists ni nw ne left end ws left' end' ws' place ts c t ∙ ap (λ (x : Bool). lists_in ni nw ne (combinations left' end' ws') && x) (sym h) ∙ and-false _) ∙ inv
 
 -- rows
 pub rows_last : (ni nw ne r : ℕ) (rs ws : List ℕ) → triples_in ni nw ne (rows (suc r) rs ws) ≡ triples_in ni nw ne (rows r rs ws) && triple_in ni nw ne (row_at r rs ws)
-rows_last ni nw ne r rs ws = triples_in_append ni nw ne (rows r rs ws) (row_at r rs ws ∷ []) ∙ ap (λ (b : Bool). triples_in ni nw ne (rows r rs ws) && b) (and_true _)
+rows_last ni nw ne r rs ws = triples_in_append ni nw ne (rows r rs ws) (row_at r rs ws ∷ []) ∙ ap (λ (b : Bool). triples_in ni nw ne (rows r rs ws) && b) (and-true _)
 
 pub rows_take : (r n : ℕ) (rs ws : List ℕ) → r ≤ n → take r (rows n rs ws) ≡ rows r rs ws
 rows_take r zero rs ws h = subst (λ (x : ℕ). take x (rows 0 rs ws) ≡ rows x rs ws) none refl
@@ -146,9 +118,6 @@ pub record CutTo (k lcs left end front : ℕ) (ws : List ℕ) : Type 0 where
   pub cut : take k (combinations lcs front ws) ≡ take k (combinations left end ws)
   pub tagged : (p : ℕ) → Tagged p lcs front ws → Tagged p left end ws
 
-pub cut_start : (k lcs front : ℕ) (ws : List ℕ) → k ≤ lcs → Chain lcs front ws → CutTo k lcs lcs front front ws
-cut_start k lcs front ws h c = record { more = h; low = omega arith; chain = c; cut = refl; tagged = λ p t. t }
-
 tagged_down : (p k end : ℕ) (ws : List ℕ) → 0 < k → Tagged p k end ws → Tagged p (k - 1) (end - 1 - heading end ws) ws
 tagged_down p zero end ws h t = absurd (omega arith)
 tagged_down p (suc k) end ws h t = subst (λ (x : ℕ). Tagged p x (end - 1 - heading end ws) ws) (sym (less k)) t.1
@@ -179,23 +148,10 @@ rows_are p ni nw ne [] = refl
 rows_are p ni nw ne (x ∷ xs) = ap (λ (b : Bool). triple_in ni nw ne x && b) (rows_are p ni nw ne xs)
 
 -- each term of a list that is in is in
-pub both : (a b : Bool) → a && b ≡ true → (a ≡ true) × (b ≡ true)
-both true b e = (refl, e)
-both false b e = let z : ◌≡◌ {A = ℕ} 0 1 = cc in absurd (omega arith)
-
-pub pairs_each : (ni nw ne i n j : ℕ) (ws : List ℕ) → j < n → all_in ni nw ne (pairs i n ws) ≡ true → code_in ni nw ne (get_or ws (2 * (i + j)) 0) ≡ true
-pairs_each ni nw ne i zero j ws h e = absurd (omega arith)
-pairs_each ni nw ne i (suc n) j ws h e =
-    let q : (all_in ni nw ne (pairs i n ws) ≡ true) × (code_in ni nw ne (get_or ws (2 * (i + n)) 0) && true ≡ true) = both _ _ (sym (all_in_append ni nw ne (pairs i n ws) _) ∙ e) in
-    elim (eq-or-lt_of_le {n = j} {m = n} (omega arith)) [
-      | inl f ↦ ap (λ (x : ℕ). code_in ni nw ne (get_or ws (2 * (i + x)) 0)) f ∙ sym (and_true _) ∙ q.1
-      | inr g ↦ pairs_each ni nw ne i n j ws g q.0
-    ]
-
 pub row_each : (ni nw ne n j : ℕ) (rs ws : List ℕ) → j < n → triples_in ni nw ne (rows n rs ws) ≡ true → triple_in ni nw ne (row_at j rs ws) ≡ true
 row_each ni nw ne zero j rs ws h e = absurd (omega arith)
 row_each ni nw ne (suc n) j rs ws h e =
-    let q : (triples_in ni nw ne (rows n rs ws) ≡ true) × (triple_in ni nw ne (row_at n rs ws) ≡ true) = both _ _ (sym (rows_last ni nw ne n rs ws) ∙ e) in
+    let q : (triples_in ni nw ne (rows n rs ws) ≡ true) × (triple_in ni nw ne (row_at n rs ws) ≡ true) = and_parts _ _ (sym (rows_last ni nw ne n rs ws) ∙ e) in
     elim (eq-or-lt_of_le {n = j} {m = n} (omega arith)) [
       | inl f ↦ ap (λ (x : ℕ). triple_in ni nw ne (row_at x rs ws)) f ∙ q.1
       | inr g ↦ row_each ni nw ne n j rs ws g q.0
@@ -216,7 +172,7 @@ rows_stop ni nw ne i r rs ws t h e f = go (triples_in ni nw ne (rows r rs ws)) (
     go true g = g refl
 
 pub triple_each : (ni nw ne : ℕ) (t : Triple) → triple_in ni nw ne t ≡ true → (all_in ni nw ne t.a ≡ true) × (all_in ni nw ne t.b ≡ true) × (all_in ni nw ne t.c ≡ true)
-triple_each ni nw ne t e = let x = both _ _ e in let y = both _ _ x.1 in (x.0, y.0, y.1)
+triple_each ni nw ne t e = let x = and_parts _ _ e in let y = and_parts _ _ x.1 in (x.0, y.0, y.1)
 
 -- what names only some names only more
 code_in_more : (i w e i' w' e' c : ℕ) → i ≤ i' → w ≤ w' → e ≤ e' → code_in i w e c ≡ true → code_in i' w' e' c ≡ true
@@ -230,11 +186,11 @@ code_in_more i w e i' w' e' c a b d h = go (eqb (c % 8) 1) (eqb (c % 8) 2) (eqb 
 
 pub all_in_more : (i w e i' w' e' : ℕ) (xs : Pairs) → i ≤ i' → w ≤ w' → e ≤ e' → all_in i w e xs ≡ true → all_in i' w' e' xs ≡ true
 all_in_more i w e i' w' e' [] a b d h = refl
-all_in_more i w e i' w' e' (x ∷ xs) a b d h = λ j. code_in_more i w e i' w' e' x.0 a b d (both _ _ h).0 j && all_in_more i w e i' w' e' xs a b d (both _ _ h).1 j
+all_in_more i w e i' w' e' (x ∷ xs) a b d h = λ j. code_in_more i w e i' w' e' x.0 a b d (and_parts _ _ h).0 j && all_in_more i w e i' w' e' xs a b d (and_parts _ _ h).1 j
 
 pub lists_in_more : (i w e i' w' e' : ℕ) (xs : List Kept) → i ≤ i' → w ≤ w' → e ≤ e' → lists_in i w e xs ≡ true → lists_in i' w' e' xs ≡ true
 lists_in_more i w e i' w' e' [] a b d h = refl
-lists_in_more i w e i' w' e' (x ∷ xs) a b d h = λ j. all_in_more i w e i' w' e' x.terms a b d (both _ _ h).0 j && lists_in_more i w e i' w' e' xs a b d (both _ _ h).1 j
+lists_in_more i w e i' w' e' (x ∷ xs) a b d h = λ j. all_in_more i w e i' w' e' x.terms a b d (and_parts _ _ h).0 j && lists_in_more i w e i' w' e' xs a b d (and_parts _ _ h).1 j
 
 triple_in_more : (i w e i' w' e' : ℕ) (t : Triple) → i ≤ i' → w ≤ w' → e ≤ e' → triple_in i w e t ≡ true → triple_in i' w' e' t ≡ true
 triple_in_more i w e i' w' e' t a b d h =
@@ -243,4 +199,4 @@ triple_in_more i w e i' w' e' t a b d h =
 
 pub triples_in_more : (i w e i' w' e' : ℕ) (xs : List Triple) → i ≤ i' → w ≤ w' → e ≤ e' → triples_in i w e xs ≡ true → triples_in i' w' e' xs ≡ true
 triples_in_more i w e i' w' e' [] a b d h = refl
-triples_in_more i w e i' w' e' (x ∷ xs) a b d h = λ j. triple_in_more i w e i' w' e' x a b d (both _ _ h).0 j && triples_in_more i w e i' w' e' xs a b d (both _ _ h).1 j
+triples_in_more i w e i' w' e' (x ∷ xs) a b d h = λ j. triple_in_more i w e i' w' e' x a b d (and_parts _ _ h).0 j && triples_in_more i w e i' w' e' xs a b d (and_parts _ _ h).1 j

@@ -2,9 +2,6 @@
 use Rattle.std.proofs.Common.{◌≡◌, ℕ, ◌+◌, ◌%◌, ◌<◌, Bool, true, false, cond, eqb, [], ◌∷◌, sym, refl, ap, ◌∙◌, subst, mod-lt, mod-eq_of_lt, arith, eq-eqb, true-eqb}
 use Rattle.relations.specs.Sum.{Pairs, total, named, weight, merged}
 
-clash : {A : Type 0} → ◌≡◌ {A = Bool} true false → A
-clash e = let z : ◌≡◌ {A = ℕ} 0 1 = cc in absurd (omega arith)
-
 pub total_below : (p a : ℕ) (ts : Pairs) (c : ℕ) → a < p → total p a ts c < p
 total_below p a [] c h = h
 total_below p a (t ∷ ts) c h = total_below p (cond (eqb t.0 c) ((a + t.1) % p) a) ts c (go (eqb t.0 c))
@@ -19,7 +16,7 @@ total_absent p a [] c e = refl
 total_absent p a (t ∷ ts) c e = go (eqb t.0 c) e (total_absent p a ts c)
   where
     go : (b : Bool) → cond b true (named c ts) ≡ false → (named c ts ≡ false → total p a ts c ≡ a) → total p (cond b ((a + t.1) % p) a) ts c ≡ a
-    go true f ih = clash f
+    go true f ih = cc
     go false f ih = ih f
 
 merged_absent : (p a : ℕ) (all ts : Pairs) (c : ℕ) → named c ts ≡ false → total p a (merged p all ts) c ≡ a
@@ -27,7 +24,7 @@ merged_absent p a all [] c e = refl
 merged_absent p a all (t ∷ ts) c e = go (eqb t.0 c) (eqb (weight p all t.0 ts) 0) refl e (merged_absent p a all ts c)
   where
     go : (b z : Bool) → eqb t.0 c ≡ b → cond b true (named c ts) ≡ false → (named c ts ≡ false → total p a (merged p all ts) c ≡ a) → total p a (cond {A = Pairs} z (merged p all ts) ((t.0, weight p all t.0 ts) ∷ merged p all ts)) c ≡ a
-    go true z q f ih = clash f
+    go true z q f ih = cc
     go false true q f ih = ih f
     go false false q f ih = ap (λ (x : Bool). total p (cond x ((a + weight p all t.0 ts) % p) a) (merged p all ts) c) q ∙ ih f
 
@@ -35,7 +32,7 @@ abbrev Goal : ℕ → Pairs → ℕ × ℕ → Pairs → ℕ → Bool → Type 0
 Goal p all t ts c z = total p 0 (cond {A = Pairs} z (merged p all ts) ((t.0, weight p all t.0 ts) ∷ merged p all ts)) c ≡ total p 0 all c
 
 merged_present : (p : ℕ) (all ts : Pairs) (c : ℕ) → 0 < p → named c ts ≡ true → total p 0 (merged p all ts) c ≡ total p 0 all c
-merged_present p all [] c h e = clash (sym e)
+merged_present p all [] c h e = cc
 merged_present p all (t ∷ ts) c h e = go (eqb t.0 c) (named c ts) refl refl e (merged_present p all ts c h)
   where
     below : total p 0 all c < p

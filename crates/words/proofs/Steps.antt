@@ -1,20 +1,8 @@
 -- One step on through the handed terms.
-use Rattle.std.proofs.Common.{◌≡◌, ℕ, ◌+◌, ◌%◌, ◌<◌, Bool, true, false, cond, eqb, ◌||◌, refl, List, [], ◌∷◌, length, get_or, drop, sym, ap, ◌∙◌, eq-eqb, ne_eqb}
+use Rattle.std.proofs.Common.{◌≡◌, ℕ, Bool, true, false, cond, eqb, ◌||◌, refl, List, [], ◌∷◌, sym, ap, ◌∙◌, ne_eqb}
 use Rattle.std.specs.List.{list_any}
-use Rattle.std.proofs.lemmas.List.{at_drop_more}
 use Rattle.relations.specs.declared.term.Term.{Term}
-use Rattle.relations.specs.Sum.{code, counted, handed, Pairs, total, named, weight, merged}
-
-pub total_same : (p a : ℕ) (ts : List Term) (i : ℕ) (d : Term) (c k : ℕ) → i < length ts → code (get_or ts i d).variable ≡ c → k ≡ counted (get_or ts i d).variable (get_or ts i d).coefficient → total p a (handed (drop i ts)) c ≡ total p ((a + k) % p) (handed (drop (i + 1) ts)) c
-total_same p a ts i d c k h e q =
-    at_drop_more (λ (xs : List Term). total p a (handed xs) c) ts i d h
-    ∙ ap (λ (b : Bool). total p (cond b ((a + counted (get_or ts i d).variable (get_or ts i d).coefficient) % p) a) (handed (drop (i + 1) ts)) c) (eq-eqb _ _ e)
-    ∙ ap (λ (x : ℕ). total p ((a + x) % p) (handed (drop (i + 1) ts)) c) (sym q)
-
-pub total_other : (p a : ℕ) (ts : List Term) (i : ℕ) (d : Term) (c : ℕ) → i < length ts → (code (get_or ts i d).variable ≡ c → ⊥) → total p a (handed (drop i ts)) c ≡ total p a (handed (drop (i + 1) ts)) c
-total_other p a ts i d c h e =
-    at_drop_more (λ (xs : List Term). total p a (handed xs) c) ts i d h
-    ∙ ap (λ (b : Bool). total p (cond b ((a + counted (get_or ts i d).variable (get_or ts i d).coefficient) % p) a) (handed (drop (i + 1) ts)) c) (ne_eqb _ _ e)
+use Rattle.relations.specs.Sum.{code, handed, Pairs, named, weight, merged}
 
 pub named_each : (ts : List Term) (c : ℕ) → list_any (λ t. eqb (code t.variable) c) ts ≡ named c (handed ts)
 named_each [] c = refl
@@ -29,11 +17,6 @@ merged_first : (p c : ℕ) (all : Pairs) (rest after : List Term) (t : Term) →
 merged_first p c all rest after t q ce =
     ap (λ (xs : List Term). merged p all (handed xs)) q
     ∙ ap (λ (x : ℕ). cond {A = Pairs} (eqb (weight p all x (handed after)) 0) (merged p all (handed after)) ((x, weight p all x (handed after)) ∷ merged p all (handed after))) (sym ce)
-
-pub merged_none : (p c k : ℕ) (all : Pairs) (rest after : List Term) (t : Term) → rest ≡ t ∷ after → c ≡ code t.variable → k ≡ weight p all c (handed after) → k ≡ 0 → merged p all (handed rest) ≡ merged p all (handed after)
-merged_none p c k all rest after t q ce e z =
-    merged_first p c all rest after t q ce
-    ∙ ap (λ (b : Bool). cond {A = Pairs} b (merged p all (handed after)) ((c, weight p all c (handed after)) ∷ merged p all (handed after))) (eq-eqb _ _ (sym e ∙ z))
 
 pub merged_some : (p c k : ℕ) (all : Pairs) (rest after : List Term) (t : Term) → rest ≡ t ∷ after → c ≡ code t.variable → k ≡ weight p all c (handed after) → (k ≡ 0 → ⊥) → merged p all (handed rest) ≡ (c, k) ∷ merged p all (handed after)
 merged_some p c k all rest after t q ce e ne =

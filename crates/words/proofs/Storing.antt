@@ -1,10 +1,10 @@
 -- The loop that stores merged terms.
-use Rattle.std.proofs.Common.{◌≡◌, ℕ, ◌+◌, ◌*◌, ◌<◌, ◌≤◌, List, [], ◌∷◌, ◌++◌, length, get_or, set, sym, refl, ap, ◌∙◌, subst, arith}
+use Rattle.std.proofs.Common.{◌≡◌, ℕ, ◌+◌, ◌*◌, ◌<◌, ◌≤◌, List, [], ◌∷◌, ◌++◌, length, get_or, set, sym, ap, ◌∙◌, subst, arith}
 use Rattle.std.proofs.lemmas.List.{append-nil}
 use Rattle.relations.specs.declared.term.Term.{Term}
-use Rattle.relations.specs.Sum.{code, handed, Pairs, weight, merged}
+use Rattle.relations.specs.Sum.{code, handed, weight, merged}
 use Rattle.words.specs.Words.{pairs, whole, Small}
-use Rattle.words.proofs.Steps.{merged_none, merged_some}
+use Rattle.words.proofs.Steps.{merged_some}
 use Rattle.words.proofs.Frames.{other_write, stored_more, stored_within, length_pairs}
 
 -- n terms are stored, and those of `rest` are left to be
@@ -14,20 +14,8 @@ pub record Storing (p at n : ℕ) (rest ts : List Term) (ws vs : List ℕ) : Typ
   pub above : (j : ℕ) → 2 * (at + n) ≤ j → get_or ws j 0 ≡ get_or vs j 0
   pub codes : Small rest
 
-pub start : (p at : ℕ) (ts : List Term) (ws : List ℕ) → Small ts → Storing p at 0 ts ts ws ws
-start p at ts ws k = record { done = refl; below = λ j h. refl; above = λ j h. refl; codes = k }
-
 small_split : (rest after : List Term) (t : Term) → rest ≡ t ∷ after → Small rest → (code t.variable < 4294967296) × Small after
 small_split rest after t q s = subst Small q s
-
--- a term that counts nothing
-pub skipped : (p at n c k : ℕ) (rest after ts : List Term) (ws vs : List ℕ) (t : Term) → rest ≡ t ∷ after → c ≡ code t.variable → k ≡ weight p (handed ts) c (handed after) → k ≡ 0 → Storing p at n rest ts ws vs → Storing p at n after ts ws vs
-skipped p at n c k rest after ts ws vs t q ce e z s = record {
-  done = ap (λ (xs : Pairs). pairs at n ws ++ xs) (sym (merged_none p c k (handed ts) rest after t q ce e z)) ∙ s.done;
-  below = s.below;
-  above = s.above;
-  codes = (small_split rest after t q s.codes).1;
-}
 
 -- a term that counts has a place
 pub record Fine (p n c : ℕ) (ts : List Term) : Type 0 where

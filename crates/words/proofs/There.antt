@@ -1,5 +1,6 @@
 -- What the words tell of variables is what a system's lists tell.
 use Rattle.std.proofs.Common.{◌≡◌, ℕ, zero, suc, ◌+◌, ◌*◌, ◌/◌, ◌%◌, ◌<◌, ◌≤◌, Bool, true, false, cond, ◌&&◌, eqb, ltb, List, [], ◌∷◌, ◌++◌, map, get_or, sym, refl, ap, ◌∙◌, subst, inl, inr, eq-or-lt_of_le, arith, ltb-false, ltb-true, lt-ltb}
+use Rattle.std.proofs.lemmas.Bool.{and_parts}
 use Rattle.relations.specs.declared.term.Variable.{Variable}
 use Rattle.relations.specs.declared.term.Variable.TheVariants.{One, Zero, Input, Witness, Combination}
 use Rattle.relations.specs.declared.term.Term.{Term}
@@ -22,10 +23,6 @@ there_known p i w k end ws (Combination c) ch t = go (ltb c end) refl
 pub all_there_known : (p i w k end : ℕ) (ws : List ℕ) (ts : List Term) → Chain k end ws → Tagged p k end ws → all_there i w end ws ts ≡ all_known i w (map (combo p) (combinations k end ws)) ts
 all_there_known p i w k end ws [] ch t = refl
 all_there_known p i w k end ws (x ∷ ts) ch t = λ j. there_known p i w k end ws x.variable ch t j && all_there_known p i w k end ws ts ch t j
-
-both : (a b : Bool) → a && b ≡ true → (a ≡ true) × (b ≡ true)
-both true b e = (refl, e)
-both false b e = let z : ◌≡◌ {A = ℕ} 0 1 = cc in absurd (omega arith)
 
 -- a variable that is there has a code that is in
 abbrev codes : ℕ → ℕ → ℕ → ℕ → ℕ → Bool
@@ -58,15 +55,15 @@ known_in i w cs (Combination n) h = (λ t. codes i w (places cs) (rest n t) (eig
 
 pub all_known_in : (i w : ℕ) (cs : List Combo) (ts : List Term) → all_known i w cs ts ≡ true → all_in i w (places cs) (handed ts) ≡ true
 all_known_in i w cs [] h = refl
-all_known_in i w cs (t ∷ ts) h = λ j. known_in i w cs t.variable (both _ _ h).0 j && all_known_in i w cs ts (both _ _ h).1 j
+all_known_in i w cs (t ∷ ts) h = λ j. known_in i w cs t.variable (and_parts _ _ h).0 j && all_known_in i w cs ts (and_parts _ _ h).1 j
 
 pub merged_in : (p i w e : ℕ) (all ts : Pairs) → all_in i w e ts ≡ true → all_in i w e (merged p all ts) ≡ true
 merged_in p i w e all [] h = refl
-merged_in p i w e all (t ∷ ts) h = go (eqb (weight p all t.0 ts) 0) (merged_in p i w e all ts (both _ _ h).1)
+merged_in p i w e all (t ∷ ts) h = go (eqb (weight p all t.0 ts) 0) (merged_in p i w e all ts (and_parts _ _ h).1)
   where
     go : (b : Bool) → all_in i w e (merged p all ts) ≡ true → all_in i w e (cond {A = Pairs} b (merged p all ts) ((t.0, weight p all t.0 ts) ∷ merged p all ts)) ≡ true
     go true ih = ih
-    go false ih = λ j. (both (code_in i w e t.0) (all_in i w e ts) h).0 j && ih j
+    go false ih = λ j. (and_parts (code_in i w e t.0) (all_in i w e ts) h).0 j && ih j
 
 known_code : (i w : ℕ) (cs : List Combo) (v : Variable) → i ≤ 65536 → w ≤ 65536 → places cs ≤ 65536 → known i w cs v ≡ true → code v < 4294967296
 known_code i w cs One a b c h = omega arith
@@ -77,7 +74,7 @@ known_code i w cs (Combination n) a b c h = omega (arith, head_under n cs h)
 
 pub known_small : (i w : ℕ) (cs : List Combo) (ts : List Term) → i ≤ 65536 → w ≤ 65536 → places cs ≤ 65536 → all_known i w cs ts ≡ true → Small ts
 known_small i w cs [] a b c h = tt
-known_small i w cs (t ∷ ts) a b c h = (known_code i w cs t.variable a b c (both _ _ h).0, known_small i w cs ts a b c (both _ _ h).1)
+known_small i w cs (t ∷ ts) a b c h = (known_code i w cs t.variable a b c (and_parts _ _ h).0, known_small i w cs ts a b c (and_parts _ _ h).1)
 
 -- no variable's code has the tag of headings
 pub code_free : (v : Variable) → code v % 8 ≡ 4 → ⊥

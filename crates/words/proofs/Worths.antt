@@ -1,21 +1,19 @@
 -- The value of terms under kept words, from the last term down, and stored terms as arrays of two words.
-use Rattle.std.proofs.Common.{◌≡◌, ℕ, zero, suc, ◌+◌, ◌*◌, ◌%◌, ◌<◌, Bool, true, ◌&&◌, List, [], ◌∷◌, ◌++◌, get_or, take, drop, sym, refl, ap, ◌∙◌, subst, arith}
+use Rattle.std.proofs.Common.{◌≡◌, ℕ, zero, suc, ◌+◌, ◌*◌, ◌%◌, ◌<◌, Bool, true, ◌&&◌, List, [], ◌∷◌, ◌++◌, get_or, take, drop, sym, refl, ap, ◌∙◌, arith}
 use Rattle.std.specs.List.{list_all}
 use Rattle.std.specs.Simd.{first_chunks}
+use Rattle.std.proofs.Math.Bool.{and-true}
+use Rattle.std.proofs.lemmas.Bool.{and_parts}
 use Rattle.std.proofs.lemmas.List.{get_or-take, get_or-drop}
 use Rattle.relations.specs.declared.term.Term.{Term}
-use Rattle.relations.specs.Sum.{Pairs, code, decode, counted, handed, code_in, all_in, value}
+use Rattle.relations.specs.Sum.{Pairs, code, decode, counted, handed, code_in, all_in}
 use Rattle.words.specs.Words.{pairs, stored, there, all_there, word_of, worth}
-use Rattle.words.proofs.Cuts.{both, and_true, all_in_append}
+use Rattle.words.proofs.Cuts.{all_in_append}
 
 -- the value of terms, onto a sum that stands for those after them
 abbrev pub onto : ℕ → (ℕ → ℕ) → ℕ → Pairs → ℕ
 onto p a s [] = s
 onto p a s (t ∷ ts) = (t.1 * a t.0 + onto p a s ts) % p
-
-onto_none : (p : ℕ) (a : ℕ → ℕ) (ts : Pairs) → onto p a 0 ts ≡ value p a ts
-onto_none p a [] = refl
-onto_none p a (t ∷ ts) = ap (λ (x : ℕ). (t.1 * a t.0 + x) % p) (onto_none p a ts)
 
 onto_last : (p : ℕ) (a : ℕ → ℕ) (s : ℕ) (xs : Pairs) (t : ℕ × ℕ) → onto p a s (xs ++ (t ∷ [])) ≡ onto p a ((t.1 * a t.0 + s) % p) xs
 onto_last p a s [] t = refl
@@ -26,15 +24,12 @@ pub record Adding (p r i w e s : ℕ) (vs ws : List ℕ) (rest all : Pairs) : Ty
   pub named : all_in i w e rest ≡ true
   pub sums : onto p (λ c. word_of r vs ws (decode c)) s rest ≡ worth p r vs ws all
 
-pub adding_start : (p r i w e : ℕ) (vs ws : List ℕ) (rest all : Pairs) → rest ≡ all → all_in i w e all ≡ true → Adding p r i w e 0 vs ws rest all
-adding_start p r i w e vs ws rest all q h = subst (λ (xs : Pairs). Adding p r i w e 0 vs ws xs all) (sym q) record { named = h; sums = onto_none p _ all }
-
 pub adding_last : (p r i w e s : ℕ) (vs ws : List ℕ) (rest less all : Pairs) (t : ℕ × ℕ) → rest ≡ less ++ (t ∷ []) → Adding p r i w e s vs ws rest all → code_in i w e t.0 ≡ true
-adding_last p r i w e s vs ws rest less all t q h = sym (and_true _) ∙ (both _ _ (sym (all_in_append i w e less (t ∷ [])) ∙ ap (all_in i w e) (sym q) ∙ h.named)).1
+adding_last p r i w e s vs ws rest less all t q h = sym (and-true _) ∙ (and_parts _ _ (sym (all_in_append i w e less (t ∷ [])) ∙ ap (all_in i w e) (sym q) ∙ h.named)).1
 
 pub adding_step : (p r i w e s s' : ℕ) (vs ws : List ℕ) (rest less all : Pairs) (t : ℕ × ℕ) → rest ≡ less ++ (t ∷ []) → s' ≡ (t.1 * word_of r vs ws (decode t.0) + s) % p → Adding p r i w e s vs ws rest all → Adding p r i w e s' vs ws less all
 adding_step p r i w e s s' vs ws rest less all t q x h = record {
-  named = (both _ _ (sym (all_in_append i w e less (t ∷ [])) ∙ ap (all_in i w e) (sym q) ∙ h.named)).0;
+  named = (and_parts _ _ (sym (all_in_append i w e less (t ∷ [])) ∙ ap (all_in i w e) (sym q) ∙ h.named)).0;
   sums = ap (λ (y : ℕ). onto p (λ c. word_of r vs ws (decode c)) y less) x
       ∙ sym (onto_last p (λ c. word_of r vs ws (decode c)) s less t)
       ∙ ap (onto p (λ c. word_of r vs ws (decode c)) s) (sym q) ∙ h.sums;

@@ -1,7 +1,7 @@
 -- Adding multiples of terms to coefficients.
-use Rattle.std.proofs.Common.{◌≡◌, ℕ, ◌+◌, ◌-◌, ◌*◌, ◌/◌, ◌%◌, ◌<◌, ◌≤◌, Bool, true, false, cond, eqb, List, [], ◌∷◌, ◌++◌, length, get_or, set, take, drop, replicate, Some, None, sym, refl, ap, ◌∙◌, subst, inl, inr, mod-lt, mod-eq_of_lt, mul_assoc, mul_comm, one-mul, mul-zero, zero-mul, mul-add, arith, get_or-set_other, get_or-set_same, eq-eqb, ne_eqb}
+use Rattle.std.proofs.Common.{◌≡◌, ℕ, ◌+◌, ◌-◌, ◌*◌, ◌/◌, ◌%◌, ◌<◌, ◌≤◌, Bool, true, false, cond, eqb, List, [], ◌∷◌, ◌++◌, length, get_or, set, take, drop, replicate, Some, sym, refl, ap, ◌∙◌, subst, inl, inr, mod-lt, mod-eq_of_lt, mul_assoc, mul_comm, one-mul, mul-add, arith, get_or-set_other, get_or-set_same, eq-eqb, ne_eqb}
 use native.Mathlib.Nat.{add-mod-mod, div-add-mod, mul-add-mod_self_left}
-use Rattle.std.proofs.lemmas.List.{take_more, take_all, get_or_append_left, get_or-append_right, get_or-replicate, get_or-drop, length-replicate}
+use Rattle.std.proofs.lemmas.List.{take_more, get_or_append_left, get_or-append_right, get_or-replicate, get_or-drop, length-replicate}
 use Rattle.std.proofs.lemmas.Bool.{cond-true, cond-false, cases_eq}
 use Rattle.relations.specs.Sum.{Pairs, code, total}
 use Rattle.words.specs.Words.{stored}
@@ -12,19 +12,6 @@ use Rattle.written.specs.Cells.{cells, variable_at, cell, Below, Added, Spread}
 use Rattle.written.proofs.Cells.{Found, found, cell_code}
 
 -- ---- one term
--- a code without a cell is of no cell's variable
-pub added_none : (p : ℕ) (n : Counts) (k c x : ℕ) (os qs : List ℕ) → None ≡ cell n c → qs ≡ os → Added p n k c x os qs
-added_none p n k c x os qs e q = record {
-  sums = λ j h. ap (λ (xs : List ℕ). get_or xs j 0) q ∙ sym (cond-false _ _ _ (ne_eqb c (code (variable_at n j)) (other j h)));
-  beyond = λ j h. ap (λ (xs : List ℕ). get_or xs j 0) q;
-}
-  where
-    other : (j : ℕ) → j < cells n → c ≡ code (variable_at n j) → ⊥
-    other j h same =
-        let s : cell n c ≡ Some j = ap (cell n) same ∙ cell_code n j h in
-        let z : ◌≡◌ {A = ℕ} 0 1 = cc in
-        omega arith
-
 pub added_some : (p : ℕ) (n : Counts) (k c x m : ℕ) (os qs : List ℕ) → Some m ≡ cell n c → cells n ≤ length os → qs ≡ set os m ((k * x + get_or os m 0) % p) → Added p n k c x os qs
 added_some p n k c x m os qs e long q = record {
   sums = λ j h. ap (λ (xs : List ℕ). get_or xs j 0) q ∙ at j h;
@@ -85,18 +72,6 @@ same_sum p a y h z = sym (mod-eq_of_lt h) ∙ ap (λ (x : ℕ). x % p) plus
     plus : a ≡ a + y
     plus = omega arith
 
-pub spread_zero : (p : ℕ) (n : Counts) (k : ℕ) (ts : Pairs) (os : List ℕ) → Below p n os → k ≡ 0 → Spread p n k ts os os
-spread_zero p n k ts os b z = record {
-  sums = λ j h. same_sum p (get_or os j 0) (k * total p 0 ts (code (variable_at n j))) (b j h) (ap (λ (x : ℕ). x * total p 0 ts (code (variable_at n j))) z ∙ zero-mul (total p 0 ts (code (variable_at n j))));
-  beyond = λ j h. refl;
-}
-
-pub spread_none : (p : ℕ) (n : Counts) (k : ℕ) (os : List ℕ) → Below p n os → Spread p n k [] os os
-spread_none p n k os b = record {
-  sums = λ j h. same_sum p (get_or os j 0) (k * 0) (b j h) (mul-zero k);
-  beyond = λ j h. refl;
-}
-
 spread_push : (p : ℕ) (n : Counts) (k : ℕ) (ts : Pairs) (c x : ℕ) (os qs rs : List ℕ) → Spread p n k ts os qs → Added p n k c x qs rs → Spread p n k (ts ++ ((c, x) ∷ [])) os rs
 spread_push p n k ts c x os qs rs s a = record {
   sums = λ j h. a.sums j h ∙ go j (eqb c (code (variable_at n j))) (s.sums j h) ∙ ap (λ (y : ℕ). (get_or os j 0 + k * y) % p) (sym (total_push p 0 ts c x (code (variable_at n j))));
@@ -110,9 +85,6 @@ spread_push p n k ts c x os qs rs s a = record {
 pub spread_more : (p : ℕ) (n : Counts) (k i : ℕ) (ts : List (List ℕ)) (d : List ℕ) (os qs rs : List ℕ) → i < length ts → Spread p n k (stored (take i ts)) os qs → Added p n k (get_or (get_or ts i d) 0 0) (get_or (get_or ts i d) 1 0) qs rs → Spread p n k (stored (take (i + 1) ts)) os rs
 spread_more p n k i ts d os qs rs h s a =
     subst (λ (xs : Pairs). Spread p n k xs os rs) (sym (stored_last (take i ts) (take (i + 1) ts) (get_or ts i d) (take_more ts i d h))) (spread_push p n k (stored (take i ts)) _ _ os qs rs s a)
-
-pub spread_all : (p : ℕ) (n : Counts) (k i : ℕ) (ts : List (List ℕ)) (os qs : List ℕ) → length ts ≤ i → Spread p n k (stored (take i ts)) os qs → Spread p n k (stored ts) os qs
-spread_all p n k i ts os qs h s = subst (λ (xs : List (List ℕ)). Spread p n k (stored xs) os qs) (take_all i ts h) s
 
 pub spread_below : (p : ℕ) (n : Counts) (k : ℕ) (ts : Pairs) (os qs : List ℕ) → 0 < p → Spread p n k ts os qs → Below p n qs
 spread_below p n k ts os qs h s = λ j l. subst (λ (x : ℕ). x < p) (sym (s.sums j l)) (mod-lt (get_or os j 0 + k * total p 0 ts (code (variable_at n j))) h)

@@ -49,15 +49,6 @@ pub record Replacing (p : ℕ) (n : Counts) (left end : ℕ) (ws os qs : List �
   pub beyond : Beyond n os qs
   pub going : (f : Variable → ℕ) → Holds n os f → Going p n qs (older p left end ws) (expanded p f (newest_first p n ws))
 
-pub replacing_start : (p : ℕ) (n : Counts) (left end : ℕ) (ws os : List ℕ) → left ≡ n.lcs → end ≡ n.front → Chain n.lcs n.front ws → Below p n os → Replacing p n left end ws os os
-replacing_start p n left end ws os a e c b = subst (λ (x : ℕ). Replacing p n x end ws os os) (sym a) (subst (λ (x : ℕ). Replacing p n n.lcs x ws os os) (sym e) record {
-  low = omega arith;
-  chain = c;
-  below = b;
-  beyond = λ j h. refl;
-  going = λ f h. record { so_far = f; holds = h; same = refl };
-})
-
 -- one combination replaced: k is the coefficient in its cell
 going_step : (p : ℕ) (n : Counts) (left end k : ℕ) (ws os qs : List ℕ) (whole : Variable → ℕ) → Last left end ws → end ≤ n.front → k ≡ get_or os (1 + n.inputs + n.witnesses + (end - 1)) 0 → Spread p n k (pairs (end - 1 - heading end ws) (heading end ws) ws) os qs → Going p n os (older p left end ws) whole → Going p n qs (older p (left - 1) (end - 1 - heading end ws) ws) whole
 going_step p n left end k ws os qs whole l low ke s g = record {
@@ -101,12 +92,6 @@ replacing_step p n left end us left' end' us' at ts k ws os qs rs pos e t ke s i
 
     terms : ts ≡ pairs (end - 1 - heading end ws) (heading end ws) ws
     terms = t.terms ∙ ap (λ (vs : List ℕ). pairs (end - 1 - heading end vs) (heading end vs) vs) e
-
-pub replaced : (p : ℕ) (n : Counts) (left end : ℕ) (ws os qs : List ℕ) → left ≡ 0 → Replacing p n left end ws os qs → (f : Variable → ℕ) → Holds n os f → Holds n qs (expanded p f (newest_first p n ws))
-replaced p n left end ws os qs z inv f h =
-    let g = inv.going f h in
-    let none : older p left end ws ≡ [] = ap (λ (x : ℕ). older p x end ws) z in
-    λ j l. g.holds j l ∙ ap (λ (f : Variable → ℕ). f (variable_at n j)) (ap (expanded p g.so_far) (sym none) ∙ g.same)
 
 -- what the first cells hold
 pub over : (n : Counts) (f : Variable → ℕ) (os qs : List ℕ) → Holds n qs f → Beyond n os qs → Over n f os qs

@@ -61,12 +61,6 @@ pub record Lies (start len : ℕ) (ws : List ℕ) : Type 0 where
   pub long : 2 * (start + len) ≤ length ws
   pub limit : start + len ≤ 65536
 
--- p is not zero, the counts are small, and the array has all their cells
-pub record Room (p : ℕ) (n : Counts) (os : List ℕ) : Type 0 where
-  pub modulus : 0 < p
-  pub small : Small n
-  pub long : cells n ≤ length os
-
 -- the combinations fill the places below the front, and these lie in the words
 pub record Chained (n : Counts) (ws : List ℕ) : Type 0 where
   pub chain : Chain n.lcs n.front ws

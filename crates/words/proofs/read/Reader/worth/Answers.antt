@@ -1,10 +1,5 @@
-use Rattle.std.proofs.Common.{ap}
-use Rattle.relations.specs.Sum.{handed}
-use Rattle.words.proofs.Worths.{adding_start, adding_last, adding_step, handed_last}
+use Rattle.words.proofs.Worths.{adding_last, adding_step, handed_last}
 use Rattle.words.proofs.read.Reader.worth.Goals as goal
-
-pub loop-t-init : goal.loop-t-init
-loop-t-init c = adding_start _ _ _ _ _ _ _ _ _ (ap handed cc) c.requires
 
 pub add-sum-requires : goal.add-sum-requires
 add-sum-requires c = rw c.code_of.ensures (adding_last _ _ _ _ _ _ _ _ _ _ _ _ (handed_last _ _ c.in-Some.t.now c.in-Some.ensures.steps) c.loop-t.invariant)

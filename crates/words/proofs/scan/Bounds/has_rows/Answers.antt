@@ -1,5 +1,3 @@
-use Rattle.std.proofs.Common.{◌≡◌, sym, ap, ℕ, arith, ◌∙◌}
-use Rattle.words.specs.Words.{triples_in, rows}
 use Rattle.words.proofs.Cuts.{rows_more, rows_stop}
 use Rattle.words.proofs.scan.Bounds.has_rows.Goals as goal
 
@@ -8,8 +6,3 @@ returns-then-not-has_row c = rows_stop _ _ _ c.loop-i.i c.args.r c.args.rows.now
 
 pub loop-i-preserved : goal.loop-i-preserved
 loop-i-preserved c = rows_more _ _ _ c.loop-i.i c.args.rows.now.words.now c.args.rows.now.terms.now _ (λ i. record { a = c.row.ensures.a i; b = c.row.ensures.b i; c = c.row.ensures.c i }) c.if-not-has_row.ensures c.loop-i.invariant
-
-pub returns : goal.returns
-returns c =
-    let e : c.loop-i.i ≡ c.args.r = omega arith in
-    sym (ap (λ (x : ℕ). triples_in c.args.self.inputs c.args.self.witnesses c.args.self.places (rows x c.args.rows.now.words.now c.args.rows.now.terms.now)) (sym e) ∙ c.loop-i.invariant)
