@@ -20,6 +20,7 @@ struct Sheet<'s, 'a, F: Field> {
 }
 
 impl<'s, 'a, F: Field> Sheet<'s, 'a, F> {
+    /// A sheet of a system, with as many words as it takes.
     fn new(heap: Global, system: &'s Valued<'a, F>) -> Result<Sheet<'s, 'a, F>, AllocError>
         ensures { IfOk result (λ sheet. sheet.system ≡ system.entry) }
     {

@@ -52,6 +52,7 @@ struct Sum<'a> {
 }
 
 impl Sum<'_> {
+    /// The term of a coefficient with this index.
     fn term(&self, index: usize, coefficient: u32) -> Term
         ensures { result ≡ record { coefficient = coefficient; name = record { index = index; inputs = self.now.inputs } } }
     {
