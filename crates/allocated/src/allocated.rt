@@ -114,8 +114,7 @@ impl AllocatedBool {
     pub fn variable(self) -> Variable
         ensures { result ≡ self.variable }
     {
-        let AllocatedBool { variable } = self;
-        variable
+        self.variable
     }
 
     /// A new input or witness with the row that forces it.

@@ -8,6 +8,7 @@ pub enum Boolean {
     Var(AllocatedBool),
 }
 
+// An enum, and not a closure: a command's call is data, of which its script is a function.
 /// A call on bits with its operands.
 #[derive(Clone, Copy)]
 pub enum BooleanCall {

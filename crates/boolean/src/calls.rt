@@ -50,6 +50,8 @@ impl Boolean {
         call(&BooleanCall::Not(self), cs)
     }
 
+    // Three calls in place of one that takes the gate: they stand for the operators of the Rust crate, one each, and `a.and(b, cs)` reads plainer.
+
     /// Whether both bits are one; a refusal leaves the system as it was.
     pub fn and<F: Field, S: System<F>>(
         self,

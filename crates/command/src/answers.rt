@@ -48,6 +48,7 @@ impl fmt::Display for Refused {
     }
 }
 
+// An enum, and not a closure, as `BooleanCall` is: the script of a command is a function of it.
 /// What a command asks for, its operands looked up: an answer that is there already, or a call on bits.
 #[derive(Clone, Copy)]
 pub enum Action {

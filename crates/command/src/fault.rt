@@ -2,7 +2,7 @@ ghost use Rattle.std.specs.Prelude.{◌≡◌};
 ghost use Rattle.command.specs.declared.fault.TapeFault.TheVariants.{Gadget as in_tape};
 ghost use Rattle.command.specs.Refusals.{of_tape};
 
-use relations::{GadgetFault, Refusal};
+use relations::{GadgetFault, Layer, Reason, Refusal};
 
 /// What a tape's command is refused with: a gadget's fault, whole, or one of the tape's own.
 #[derive(Clone, Copy)]
@@ -26,13 +26,13 @@ impl From<TapeFault> for Refusal {
     ghost from_gives = { λ f r. r ≡ of_tape f };
 
     fn from(fault: TapeFault) -> Refusal {
-        let (number, layer) = match fault {
+        let (reason, layer) = match fault {
             TapeFault::Gadget(fault) => return fault.into(),
-            TapeFault::Unknown => (1, 1),
-            TapeFault::Operand => (2, 1),
-            TapeFault::Length => (3, 1),
-            TapeFault::BookFull => (11, 1),
+            TapeFault::Unknown => (Reason::NotACommand, Layer::Tape),
+            TapeFault::Operand => (Reason::NotThere, Layer::Tape),
+            TapeFault::Length => (Reason::Length, Layer::Tape),
+            TapeFault::BookFull => (Reason::BookFull, Layer::Tape),
         };
-        Refusal { number, layer }
+        Refusal::new(reason, layer)
     }
 }

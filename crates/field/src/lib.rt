@@ -34,6 +34,9 @@ pub trait Field: Copy {
     fn one() -> Self
         ensures { number result ≡ 1 };
 
+    // Methods, and not `From<u32>`, `From<i64>` or `Add`: what each gives is said by the trait's own `number`, and a bound on std's traits could say it
+    // in `laws` alone, further from the call.
+
     // The element that stands for a number modulo the prime.
     fn from_number(n: u32) -> Self
         ensures { number result ≡ n % modulus };
@@ -76,6 +79,20 @@ pub trait IsPrime<const P: u32> {
     ghost vouched: { OddPrime P };
 }
 
+impl<const P: u32> Residue<P>
+where
+    Residue<P>: IsPrime<P>,
+{
+    // The remainder of a number.
+    fn reduced(n: u64) -> Residue<P>
+        ensures { result.code ≡ n % P }
+    {
+        Residue {
+            code: (n % P as u64) as u32,
+        }
+    }
+}
+
 impl<const P: u32> Field for Residue<P>
 where
     Residue<P>: IsPrime<P>,
@@ -101,7 +118,7 @@ where
     }
 
     fn from_number(n: u32) -> Residue<P> {
-        Residue { code: n % P }
+        Residue::reduced(n as u64)
     }
 
     fn from_i64(v: i64) -> Residue<P> {
@@ -125,33 +142,23 @@ where
     }
 
     fn add(self, other: Residue<P>) -> Residue<P> {
-        Residue {
-            code: ((self.code as u64 + other.code as u64) % P as u64) as u32,
-        }
+        Residue::reduced(self.code as u64 + other.code as u64)
     }
 
     fn sub(self, other: Residue<P>) -> Residue<P> {
-        Residue {
-            code: ((self.code as u64 + (P - other.code) as u64) % P as u64) as u32,
-        }
+        Residue::reduced(self.code as u64 + (P - other.code) as u64)
     }
 
     fn mul(self, other: Residue<P>) -> Residue<P> {
-        Residue {
-            code: ((self.code as u64 * other.code as u64) % P as u64) as u32,
-        }
+        Residue::reduced(self.code as u64 * other.code as u64)
     }
 
     fn neg(self) -> Residue<P> {
-        Residue {
-            code: (P - self.code) % P,
-        }
+        Residue::reduced((P - self.code) as u64)
     }
 
     fn double(self) -> Residue<P> {
-        Residue {
-            code: ((2 * self.code as u64) % P as u64) as u32,
-        }
+        Residue::reduced(2 * self.code as u64)
     }
 
     fn inverse(self) -> Option<Residue<P>> {

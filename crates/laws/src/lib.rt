@@ -3,8 +3,6 @@
 ghost use Rattle.laws.specs.Claims.{Bills};
 
 /// What is promised of bills stands: see `Bills`.
-pub fn stands() -> u8
+pub fn stands()
     ensures { Bills }
-{
-    0
-}
+{}

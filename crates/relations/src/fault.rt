@@ -1,4 +1,4 @@
-ghost use Rattle.relations.specs.Fault.{of_system, of_gadget};
+ghost use Rattle.relations.specs.Fault.{refusal, number_of, layer_of, of_system, of_gadget};
 ghost use Rattle.relations.specs.declared.fault.GadgetFault.TheVariants.{System as in_gadget};
 ghost use Rattle.std.specs.Prelude.{◌≡◌};
 
@@ -25,12 +25,51 @@ pub enum GadgetFault {
     NoSystem,
 }
 
-/// A refusal as it is told to the tape's writer: its number, and the layer that it comes from (1 tape, 2 gadget, 3 system,
-/// 4 a layer above a system).
+/// What a refusal says, with the number that it is told by.
+#[derive(Clone, Copy)]
+pub enum Reason {
+    NotACommand = 1,
+    NotThere = 2,
+    Length = 3,
+    TooManyMembers = 4,
+    NoValue = 5,
+    Unsatisfiable = 6,
+    NoSystem = 7,
+    VariablesFull = 8,
+    TermsFull = 9,
+    RowsFull = 10,
+    BookFull = 11,
+    QuotaFull = 12,
+    MarkRefused = 13,
+}
+
+/// Where a refusal comes from, with the number that it is told by: the tape, a gadget, a system, or a layer above a system.
+#[derive(Clone, Copy)]
+pub enum Layer {
+    Tape = 1,
+    Gadget = 2,
+    System = 3,
+    AboveSystem = 4,
+}
+
+/// A refusal as it is told to the tape's writer: the numbers of its reason and of the layer that it comes from.
+// Numbers, and not the two enums: by the format of a run's text this is what is told of a refusal, and no code decides by it.
 #[derive(Clone, Copy)]
 pub struct Refusal {
     pub number: u32,
     pub layer: u32,
+}
+
+impl Refusal {
+    /// The refusal for a reason, from a layer.
+    pub fn new(reason: Reason, layer: Layer) -> Refusal
+        ensures { result ≡ refusal (number_of reason) (layer_of layer) }
+    {
+        Refusal {
+            number: reason as u32,
+            layer: layer as u32,
+        }
+    }
 }
 
 impl From<SystemFault> for GadgetFault {
@@ -45,17 +84,17 @@ impl From<SystemFault> for Refusal {
     ghost from_gives = { λ f r. r ≡ of_system f };
 
     fn from(fault: SystemFault) -> Refusal {
-        let (number, layer) = match fault {
-            SystemFault::UnknownVariable => (2, 3),
-            SystemFault::MissingValue => (5, 3),
-            SystemFault::InputsFull => (8, 3),
-            SystemFault::WitnessesFull => (8, 3),
-            SystemFault::TermsFull => (9, 3),
-            SystemFault::RowsFull => (10, 3),
-            SystemFault::QuotaFull => (12, 4),
-            SystemFault::MarkRefused => (13, 3),
+        let (reason, layer) = match fault {
+            SystemFault::UnknownVariable => (Reason::NotThere, Layer::System),
+            SystemFault::MissingValue => (Reason::NoValue, Layer::System),
+            SystemFault::InputsFull => (Reason::VariablesFull, Layer::System),
+            SystemFault::WitnessesFull => (Reason::VariablesFull, Layer::System),
+            SystemFault::TermsFull => (Reason::TermsFull, Layer::System),
+            SystemFault::RowsFull => (Reason::RowsFull, Layer::System),
+            SystemFault::QuotaFull => (Reason::QuotaFull, Layer::AboveSystem),
+            SystemFault::MarkRefused => (Reason::MarkRefused, Layer::System),
         };
-        Refusal { number, layer }
+        Refusal::new(reason, layer)
     }
 }
 
@@ -63,13 +102,13 @@ impl From<GadgetFault> for Refusal {
     ghost from_gives = { λ f r. r ≡ of_gadget f };
 
     fn from(fault: GadgetFault) -> Refusal {
-        let (number, layer) = match fault {
+        let (reason, layer) = match fault {
             GadgetFault::System(fault) => return fault.into(),
-            GadgetFault::TooManyMembers => (4, 2),
-            GadgetFault::NoValue => (5, 2),
-            GadgetFault::Unsatisfiable => (6, 2),
-            GadgetFault::NoSystem => (7, 2),
+            GadgetFault::TooManyMembers => (Reason::TooManyMembers, Layer::Gadget),
+            GadgetFault::NoValue => (Reason::NoValue, Layer::Gadget),
+            GadgetFault::Unsatisfiable => (Reason::Unsatisfiable, Layer::Gadget),
+            GadgetFault::NoSystem => (Reason::NoSystem, Layer::Gadget),
         };
-        Refusal { number, layer }
+        Refusal::new(reason, layer)
     }
 }

@@ -6,6 +6,7 @@ use crate::fault::GadgetFault;
 use crate::system::System;
 use field::Field;
 
+// A trait, and not a closure: what a call does is said by the script `model`, and a bound on `FnOnce` has no ghost member to name one.
 /// A gadget with its operands: the steps that it asks of a system are those of the script `model`, at the field's prime.
 pub trait Gadget<F: Field, S: System<F>> {
     type Out;

@@ -6,7 +6,7 @@ mod system;
 mod term;
 mod terms;
 
-pub use fault::{GadgetFault, Refusal, SystemFault};
+pub use fault::{GadgetFault, Layer, Reason, Refusal, SystemFault};
 pub use gadget::{Gadget, call};
 pub use system::System;
 pub use term::{Mark, Side, Term, Variable};

@@ -26,6 +26,7 @@ pub trait System<F: Field> {
         ensures adds { Adds (meaning self.old) (stored self.old) (meaning self.new) (stored self.new) }
         ensures leaves { Leaves result (stored self.old) (stored self.new) };
 
+    // Three slices, and not a struct of them: a row is A, B and C wherever it is written, and a struct would only name them once more.
     /// A new row.
     fn enforce_constraint(&mut self, a: &[Term], b: &[Term], c: &[Term]) -> Result<(), SystemFault>
         ensures does { Ran (enforce F.Field.modulus a.now b.now c.now) (meaning self.old) result (meaning self.new) }

@@ -1,9 +1,9 @@
 #![tactic(auto)]
 
-mod asked;
 mod reading;
 mod rooms;
 mod store;
+mod system;
 mod valued;
 
 pub use rooms::{Counts, OpenFault, OutlineFault, Rooms, open};

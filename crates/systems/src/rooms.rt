@@ -5,10 +5,11 @@ ghost use Rattle.systems.specs.Opening.{of_opening, opening, Opened};
 use crate::store::Store;
 use crate::valued::Valued;
 use field::Field;
-use relations::Refusal;
+use relations::{Layer, Reason, Refusal};
 use std::marker::PhantomData;
 use written::writer::TooShort;
 
+// A type of its own beside `Counts` and `Mark`: it speaks of terms where they speak of combinations, and a `Mark` has to be spent.
 /// How much of each a system takes.
 #[derive(Clone, Copy)]
 pub struct Rooms {
@@ -55,13 +56,13 @@ impl From<OpenFault> for Refusal {
     ghost from_gives = { λ f r. r ≡ of_opening f };
 
     fn from(fault: OpenFault) -> Refusal {
-        let (number, layer) = match fault {
-            OpenFault::RoomTooLarge => (3, 3),
-            OpenFault::ShortValues => (8, 3),
-            OpenFault::ShortTerms => (9, 3),
-            OpenFault::ShortRows => (10, 3),
+        let reason = match fault {
+            OpenFault::RoomTooLarge => Reason::Length,
+            OpenFault::ShortValues => Reason::VariablesFull,
+            OpenFault::ShortTerms => Reason::TermsFull,
+            OpenFault::ShortRows => Reason::RowsFull,
         };
-        Refusal { number, layer }
+        Refusal::new(reason, Layer::System)
     }
 }
 

@@ -13,6 +13,7 @@ pub enum Part {
     C,
 }
 
+// Slices with counts beside them, and not vectors: the memory of a system is lent by its caller, and this crate allocates none.
 /// The rows and terms of a constraint system in lent words: six words to a row, two to a term. Combinations and their
 /// headings grow from the front of the terms, the terms of rows from the back of their room.
 #[derive(Drop)]

@@ -1,4 +1,4 @@
-use Rattle.std.proofs.Common.{Ok, sym, ap, ◌∙◌, rules}
+use Rattle.std.proofs.Common.{Ok, sym, ap, ◌∙◌}
 use Rattle.relations.specs.Script.{restored}
 use Rattle.relations.proofs.Undone.{Marks, undone, never_stuck, system_back, words_back, begins_refl, same_begins}
 use Rattle.relations.proofs.gadget.call.Goals as goal

@@ -24,7 +24,7 @@ returns g c =
     let s = state c.args.self.now in
     let l : cells c.writer.result.counts ≤ length c.args.out.now = leb-true _ _ (sym c.in_ok-write_out.ensures.room) in
     let o : Outlined s c.args.part c.args.row c.args.out.now c.write_out.new.out =
-        outlined_read s c.args.part c.args.row c.place-at.result c.writer.result c.args.out.now c.write_out.new.out c.place-at.ensures c.writer.ensures c.if-row-self.false c.write_out.auto.out l c.in_ok-write_out.ensures.written
+    outlined_read s c.args.part c.args.row c.place-at.result c.writer.result c.args.out.now c.write_out.new.out c.place-at.ensures c.writer.ensures c.if-row-self.false c.write_out.auto.out l c.in_ok-write_out.ensures.written
     in
     record {
       done = written_out_fits s c.args.row (length c.args.out.now) c.if-row-self.false (subst (λ (n : Counts). cells n ≤ length c.args.out.now) c.writer.ensures.counts l);

@@ -8,12 +8,15 @@ use Rattle.systems.proofs.valued.Valued.cut.Goals as goal
 pub returns-then-to-self : goal.returns-then-to-self
 returns-then-to-self g c =
     let s = state c.args.self.now in
-    let t = c.args.to in
-    ( refl,
-    elim c.then-to-self.branch [ then-to-self-via-then-to-self w ↦ long_inputs s t.inputs t.witnesses t.combinations t.rows w.if-to-self.true
-    | then-to-self-via-else-to-self+then-to-self-2 w ↦ long_witnesses s t.inputs t.witnesses t.combinations t.rows w.if-to-self.false w.if-to-self-2.true
-    | then-to-self-via-else-to-self+else-to-self-2+then-to-self-3 w ↦ long_lcs s t.inputs t.witnesses t.combinations t.rows w.if-to-self.false w.if-to-self-2.false w.if-to-self-3.true
-    | then-to-self-via-else-to-self+else-to-self-2+else-to-self-3+then-to-self-4 w ↦ long_rows s t.inputs t.witnesses t.combinations t.rows w.if-to-self.false w.if-to-self-2.false w.if-to-self-3.false w.if-to-self-4.true ] )
+    let t = c.args.to in (
+      refl,
+      elim c.then-to-self.branch [
+        | then-to-self-via-then-to-self w ↦ long_inputs s t.inputs t.witnesses t.combinations t.rows w.if-to-self.true
+        | then-to-self-via-else-to-self+then-to-self-2 w ↦ long_witnesses s t.inputs t.witnesses t.combinations t.rows w.if-to-self.false w.if-to-self-2.true
+        | then-to-self-via-else-to-self+else-to-self-2+then-to-self-3 w ↦ long_lcs s t.inputs t.witnesses t.combinations t.rows w.if-to-self.false w.if-to-self-2.false w.if-to-self-3.true
+        | then-to-self-via-else-to-self+else-to-self-2+else-to-self-3+then-to-self-4 w ↦ long_rows s t.inputs t.witnesses t.combinations t.rows w.if-to-self.false w.if-to-self-2.false w.if-to-self-3.false w.if-to-self-4.true
+      ],
+    )
 
 pub returns-then-not-has_combinations : goal.returns-then-not-has_combinations
 returns-then-not-has_combinations g c =
@@ -23,10 +26,13 @@ returns-then-not-has_combinations g c =
     let w = c.rows-rows.ensures in
     let first : Firsts s t.combinations d.result.end = firsts s c.combinations.result d.result t.combinations c.args.self.now.fit c.combinations.ensures d.ensures.count d.ensures.words d.ensures.low d.ensures.tagged d.ensures.cut in
     let listed : lists_in t.inputs t.witnesses d.result.end (combinations d.result.left d.result.end d.result.words.now) ≡ lists_in t.inputs t.witnesses d.result.end (combinations t.combinations d.result.end s.term_words) = (λ i. lists_in t.inputs t.witnesses d.result.end (combinations (d.ensures.count i) d.result.end ((d.ensures.words ∙ c.combinations.ensures.words) i))) in
-    let rowed : triples_in t.inputs t.witnesses d.result.end (rows t.rows c.rows-rows.result.words.now c.rows-rows.result.terms.now) ≡ triples_in t.inputs t.witnesses d.result.end (rows t.rows s.row_words s.term_words) = (λ i. triples_in t.inputs t.witnesses d.result.end (rows t.rows (w.words i) (w.terms i))) in
-    ( refl,
-    elim c.then-not-has_combinations.branch [ then-not-has_combinations-via-then-not-has_combinations x ↦ names_cut s t.inputs t.witnesses t.combinations t.rows d.result.end c.if-to-self.false c.if-to-self-2.false c.if-to-self-3.false c.if-to-self-4.false first.cut first.chain (x.if-not-has_combinations.ensures ∙ listed)
-    | then-not-has_combinations-via-else-not-has_combinations+then-not-has_rows x ↦ verdict s t.inputs t.witnesses t.combinations t.rows d.result.end true false c.if-to-self.false c.if-to-self-2.false c.if-to-self-3.false c.if-to-self-4.false first.cut first.chain (x.if-not-has_combinations.ensures ∙ listed) (x.if-not-has_rows.ensures ∙ rowed) ] )
+    let rowed : triples_in t.inputs t.witnesses d.result.end (rows t.rows c.rows-rows.result.words.now c.rows-rows.result.terms.now) ≡ triples_in t.inputs t.witnesses d.result.end (rows t.rows s.row_words s.term_words) = (λ i. triples_in t.inputs t.witnesses d.result.end (rows t.rows (w.words i) (w.terms i))) in (
+      refl,
+      elim c.then-not-has_combinations.branch [
+        | then-not-has_combinations-via-then-not-has_combinations x ↦ names_cut s t.inputs t.witnesses t.combinations t.rows d.result.end c.if-to-self.false c.if-to-self-2.false c.if-to-self-3.false c.if-to-self-4.false first.cut first.chain (x.if-not-has_combinations.ensures ∙ listed)
+        | then-not-has_combinations-via-else-not-has_combinations+then-not-has_rows x ↦ verdict s t.inputs t.witnesses t.combinations t.rows d.result.end true false c.if-to-self.false c.if-to-self-2.false c.if-to-self-3.false c.if-to-self-4.false first.cut first.chain (x.if-not-has_combinations.ensures ∙ listed) (x.if-not-has_rows.ensures ∙ rowed)
+      ],
+    )
 
 pub returns : goal.returns
 returns g c =

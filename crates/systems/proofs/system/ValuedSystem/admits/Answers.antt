@@ -3,7 +3,7 @@ use Rattle.relations.specs.Meaning.{admit}
 use Rattle.relations.specs.Script.{over}
 use Rattle.systems.specs.Held.{state, meant_by}
 use Rattle.systems.proofs.Calls.{admitted}
-use Rattle.systems.proofs.asked.ValuedSystem.admits.Goals as goal
+use Rattle.systems.proofs.system.ValuedSystem.admits.Goals as goal
 
 pub returns : goal.returns
 returns g c =

@@ -3,7 +3,7 @@ use Rattle.words.proofs.Areas.{chain_count}
 use Rattle.systems.specs.Held.{state}
 use Rattle.systems.proofs.Views.{inputs_long, witnesses_long, lcs_long, rows_long, sane_is}
 use Rattle.systems.proofs.Grown.{same_words}
-use Rattle.systems.proofs.asked.ValuedSystem.mark.Goals as goal
+use Rattle.systems.proofs.system.ValuedSystem.mark.Goals as goal
 
 pub overflow_cast-result-3 : goal.overflow_cast-result-3
 overflow_cast-result-3 g c =

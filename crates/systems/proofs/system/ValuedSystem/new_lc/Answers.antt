@@ -9,7 +9,7 @@ use Rattle.systems.specs.Stores.{beside}
 use Rattle.systems.proofs.Views.{has_small}
 use Rattle.systems.proofs.Grown.{Done, moved}
 use Rattle.systems.proofs.Calls.{lc_unknown, lc_full, lc_new}
-use Rattle.systems.proofs.asked.ValuedSystem.new_lc.Goals as goal
+use Rattle.systems.proofs.system.ValuedSystem.new_lc.Goals as goal
 
 pub returns-then-not-has_all : goal.returns-then-not-has_all
 returns-then-not-has_all g c =

@@ -1,6 +1,6 @@
 use Rattle.systems.specs.Held.{state}
 use Rattle.systems.proofs.Rewinds.{done}
-use Rattle.systems.proofs.asked.ValuedSystem.rewind.Goals as goal
+use Rattle.systems.proofs.system.ValuedSystem.rewind.Goals as goal
 
 pub invariant_of-self : goal.invariant_of-self
 invariant_of-self g c =

@@ -2,8 +2,8 @@ use Rattle.std.proofs.Common.{◌≡◌, ◌<◌, Some, sym, ap, ◌∙◌, arit
 use Rattle.std.specs.Option.{option_map}
 use Rattle.systems.specs.Held.{state}
 use Rattle.systems.proofs.Variables.{at_side, full, missing, input_added, witness_added}
-use Rattle.systems.proofs.asked.ValuedSystem.new_variable.Goals.{in-Input, in-Witness}
-use Rattle.systems.proofs.asked.ValuedSystem.new_variable.Goals as goal
+use Rattle.systems.proofs.system.ValuedSystem.new_variable.Goals.{in-Input, in-Witness}
+use Rattle.systems.proofs.system.ValuedSystem.new_variable.Goals as goal
 
 pub returns-then-n-room-clause-does : goal.returns-then-n-room-clause-does
 returns-then-n-room-clause-does g c =

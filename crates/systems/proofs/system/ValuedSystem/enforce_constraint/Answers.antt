@@ -5,9 +5,9 @@ use Rattle.words.specs.State.{State, with_row}
 use Rattle.systems.specs.Held.{state, Sized}
 use Rattle.systems.specs.Stores.{beside}
 use Rattle.systems.proofs.Views.{has_small}
-use Rattle.systems.proofs.Grown.{Done, refuse, moved}
+use Rattle.systems.proofs.Grown.{Done, moved}
 use Rattle.systems.proofs.Calls.{row_full, row_new}
-use Rattle.systems.proofs.asked.ValuedSystem.enforce_constraint.Goals as goal
+use Rattle.systems.proofs.system.ValuedSystem.enforce_constraint.Goals as goal
 
 pub returns-then-self : goal.returns-then-self
 returns-then-self g c =

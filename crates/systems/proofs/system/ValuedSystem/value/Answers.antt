@@ -3,7 +3,7 @@ use Rattle.relations.specs.Meaning.{assigned}
 use Rattle.words.specs.State.{view}
 use Rattle.systems.specs.Held.{state}
 use Rattle.systems.proofs.Views.{word_below, told_is}
-use Rattle.systems.proofs.asked.ValuedSystem.value.Goals as goal
+use Rattle.systems.proofs.system.ValuedSystem.value.Goals as goal
 
 pub returns-in_default : goal.returns-in_default
 returns-in_default g c =
