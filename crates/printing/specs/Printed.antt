@@ -3,8 +3,8 @@ use Rattle.std.specs.Prelude.{◌≡◌, ℕ, min, true, false, List, [], Ok}
 use Rattle.std.specs.declared.alloc.AllocError.{AllocError}
 use Rattle.relations.specs.Meaning.{empty}
 use Rattle.command.specs.declared.answers.Refused.{Refused}
-use Rattle.systems.specs.declared.lent.Rooms.{Rooms}
-use Rattle.systems.specs.declared.lent.OpenFault.TheVariants.{RoomTooLarge}
+use Rattle.systems.specs.declared.rooms.Rooms.{Rooms}
+use Rattle.systems.specs.declared.rooms.OpenFault.TheVariants.{RoomTooLarge}
 use Rattle.systems.specs.Opening.{small}
 use Rattle.readings.specs.State.{State, state}
 use Rattle.tape.specs.Tape.{Taped}

@@ -10,7 +10,7 @@ use command::Answer;
 use field::Field;
 use report::report;
 use std::alloc::{AllocError, Global};
-use systems::{Lent, OpenFault, Rooms, Valued, open};
+use systems::{OpenFault, Rooms, open};
 use tape::{Book, Circuit, run};
 
 /// Why there is no text: the system is not opened, or memory is wanting.
@@ -55,6 +55,6 @@ pub fn print<F: Field>(
     let system = open::<F>(rooms, &mut values, &mut terms, &mut rows)?;
     let book = Book::new(&mut answers);
     let mut circuit = Circuit { system, book };
-    run::<F, Valued<Lent>>(&mut circuit, tape, most, &mut refused)?;
-    Ok(report::<F>(heap, &refused, &circuit.system)?)
+    run(&mut circuit, tape, most, &mut refused)?;
+    Ok(report(heap, &refused, &circuit.system)?)
 }

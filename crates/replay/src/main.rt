@@ -4,45 +4,37 @@
 #![tactic(auto)]
 
 use field::F101;
+use hex::FromHexError;
 use printing::print;
 use std::alloc::{AllocError, Global};
 use std::{fs, io};
 use systems::Rooms;
 
-/// The number of a hexadecimal digit, 0 where it is none.
-fn digit(byte: u8) -> u8 {
-    match byte {
-        b'0'..=b'9' => byte.wrapping_sub(b'0'),
-        b'a'..=b'f' => byte.wrapping_sub(b'a').wrapping_add(10),
-        _ => 0,
-    }
-}
+/// The rooms of the system.
+const ROOMS: Rooms = Rooms {
+    inputs: 1024,
+    witnesses: 1024,
+    terms: 1024,
+    rows: 1024,
+};
 
-/// The bytes that a text of hexadecimal digits stands for.
-fn bytes_of(heap: Global, text: &str) -> Result<Vec<u8>, AllocError> {
-    let mut bytes = Vec::new(heap);
-    for pair in text.as_bytes().chunks_exact(2) {
-        let (high, low) = (digit(pair[0]), digit(pair[1]));
-        bytes.push(high.wrapping_mul(16).wrapping_add(low))?;
-    }
-    Ok(bytes)
+/// The digits of a block's tape, and the text below it; none where the block has no tape.
+fn parts(block: &str) -> Option<(&str, &str)> {
+    let (head, text) = block.split_once("\n")?;
+    Some((head.strip_prefix("tape ")?, text))
 }
 
 /// Whether a block's tape gives the text below it.
 fn agrees(heap: Global, block: &str) -> Result<bool, AllocError> {
-    let Some((head, text)) = block.split_once("\n") else {
+    let Some((digits, text)) = parts(block) else {
         return Ok(false);
     };
-    let Some(digits) = head.strip_prefix("tape ") else {
-        return Ok(false);
+    let tape = match hex::decode(heap, digits) {
+        Ok(tape) => tape,
+        Err(FromHexError::OutOfMemory) => return Err(AllocError),
+        Err(_) => return Ok(false),
     };
-    let rooms = Rooms {
-        inputs: 1024,
-        witnesses: 1024,
-        terms: 1024,
-        rows: 1024,
-    };
-    match print::<F101>(heap, rooms, 4096, 4096, &bytes_of(heap, digits)?) {
+    match print::<F101>(heap, ROOMS, 4096, 4096, &tape) {
         Ok(found) => Ok(found.as_str() == text),
         Err(_) => Ok(false),
     }
@@ -53,10 +45,7 @@ fn main(rt: HostRuntime) -> io::Result<()> {
     let all = fs::read_to_string(&rt, "first-bits.txt")?;
     let mut right: u32 = 0;
     let mut wrong: u32 = 0;
-    for block in all.as_str().split("---\n") {
-        if block.is_empty() {
-            continue;
-        }
+    for block in all.as_str().split_terminator("---\n") {
         if agrees(heap, block)? {
             right = right.saturating_add(1);
         } else {

@@ -1,10 +1,9 @@
 -- What is reported of a system.
-use Rattle.std.specs.Prelude.{◌≡◌, ℕ, List, map, length}
+use Rattle.std.specs.Prelude.{ℕ, List, map, length}
 use Rattle.relations.specs.Sum.{Row}
 use Rattle.relations.specs.Meaning.{Meaning}
-use Rattle.systems.specs.declared.lent.Counts.{Counts}
-use Rattle.systems.specs.declared.lent.Part.{Part}
-use Rattle.systems.specs.declared.lent.Part.TheVariants.{A, B, C}
+use Rattle.systems.specs.declared.store.Part.{Part}
+use Rattle.systems.specs.declared.store.Part.TheVariants.{A, B, C}
 use Rattle.systems.specs.Outline.{coefficients, row_sum}
 use Rattle.systems.specs.Unmet.{first_unmet}
 use Rattle.report.specs.Text.{Sums, Page, sum_text, row_text}
@@ -15,12 +14,6 @@ sums_of p m r = record { left = coefficients p m r.a; right = coefficients p m r
 
 abbrev pub page_of : ℕ → Meaning → Page
 page_of p m = record { inputs = length m.inputs; witnesses = length m.witnesses; rows = map (sums_of p m) m.rows; unmet = first_unmet p m }
-
--- these are how many inputs, witnesses and rows there are
-pub record Counted (m : Meaning) (n : Counts) : Type 0 where
-  pub inputs : n.inputs ≡ length m.inputs
-  pub witnesses : n.witnesses ≡ length m.witnesses
-  pub rows : n.rows ≡ length m.rows
 
 -- the text of a part of row i, and of its line
 abbrev pub part_text : ℕ → Meaning → ℕ → Part → List ℕ

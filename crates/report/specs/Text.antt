@@ -1,6 +1,8 @@
 -- The text of a report, as the list of its bytes.
-use Rattle.std.specs.Prelude.{ℕ, ◌+◌, ◌-◌, Bool, cond, List, [], ◌∷◌, ◌++◌, length, Some, None, codes, decimal, Option, ◌==◌, nat_le}
+use Rattle.std.specs.Prelude.{ℕ, ◌+◌, ◌-◌, cond, List, [], ◌∷◌, ◌++◌, length, Some, None, codes, decimal, Option, ◌==◌, nat_le}
+use Rattle.std.specs.List.{flat_map}
 use Rattle.command.specs.declared.answers.Refused.{Refused}
+use Rattle.command.specs.Refusals.{refused_text}
 
 -- ---- sums
 -- the name of the variable with the index k: one, then the inputs, then the witnesses
@@ -17,14 +19,9 @@ abbrev pub term_texts : ℕ → ℕ → List ℕ → List (List ℕ)
 term_texts inputs k [] = []
 term_texts inputs k (c ∷ cs) = cond (c == 0) (term_texts inputs (k + 1) cs) (term_text inputs k c ∷ term_texts inputs (k + 1) cs)
 
--- what stands before a term: nothing where it is the first
-abbrev pub link_text : Bool → List ℕ
-link_text first = cond first [] (codes " + ")
-
 -- more terms after some that stand already
 abbrev pub more_terms : List (List ℕ) → List ℕ
-more_terms [] = []
-more_terms (t ∷ ts) = codes " + " ++ (t ++ more_terms ts)
+more_terms ts = flat_map (λ t. codes " + " ++ t) ts
 
 -- the terms of a whole sum
 abbrev pub joined_terms : List (List ℕ) → List ℕ
@@ -41,12 +38,10 @@ row_text inputs a b c =
 
 -- ---- the other lines
 abbrev pub refusal_text : Refused → List ℕ
-refusal_text r =
-    codes "refused " ++ (decimal r.command ++ (codes " " ++ (decimal r.refusal.number ++ (codes " " ++ (decimal r.refusal.layer ++ codes "\n")))))
+refusal_text r = refused_text r ++ codes "\n"
 
 abbrev pub refusals_text : List Refused → List ℕ
-refusals_text [] = []
-refusals_text (r ∷ rs) = refusal_text r ++ refusals_text rs
+refusals_text rs = flat_map refusal_text rs
 
 abbrev pub counts_text : ℕ → ℕ → ℕ → List ℕ
 counts_text inputs witnesses rows =
@@ -64,8 +59,7 @@ pub record Sums : Type 0 where
   pub product : List ℕ
 
 abbrev pub rows_text : ℕ → List Sums → List ℕ
-rows_text inputs [] = []
-rows_text inputs (s ∷ ss) = row_text inputs s.left s.right s.product ++ rows_text inputs ss
+rows_text inputs ss = flat_map (λ s. row_text inputs s.left s.right s.product) ss
 
 -- what is reported of a system: how many inputs and witnesses it has, its rows, and the number of the first that is not met
 pub record Page : Type 0 where

@@ -1,37 +1,53 @@
-ghost use Rattle.std.specs.Prelude.{◌≡◌, ◌++◌, IfSome, string_bytes, OnOk};
-ghost use Rattle.report.specs.Text.{refusal_text, refusals_text, counts_text, verdict_text};
+ghost use Rattle.std.specs.Prelude.{◌≡◌, ◌++◌, Some, IfSome, string_bytes, OnOk};
+ghost use Rattle.report.specs.Text.{refusals_text, counts_text, verdict_text};
 
 use command::Refused;
-use relations::Refusal;
 use std::alloc::AllocError;
+use std::fmt;
 use std::fmt::Display;
 
 /// Appends what a value shows as `{}`. Where it fails, memory was wanting, and how much of the value was written is not said.
 pub(crate) fn push_shown<D: Display + Drop>(text: &mut String, value: D) -> Result<(), AllocError>
     ensures { OnOk result (IfSome (D.Display.output value) (λ bytes. string_bytes text.new ≡ string_bytes text.old ++ bytes)) }
 {
-    match text.write(value) {
-        Ok(()) => Ok(()),
-        Err(_) => Err(AllocError),
+    text.write(value).map_err(|_| AllocError)
+}
+
+/// The lines of some refusals, in their order: `refused 4 2 1` for the command 4, refused with the number 2 by the layer 1.
+#[derive(Clone, Copy)]
+struct Refusals<'a>(&'a [Refused]);
+
+impl Display for Refusals<'_> {
+    ghost output = { λ refusals. Some (refusals_text refusals.0.now) };
+
+    fn fmt<W: fmt::Write>(&self, f: &mut fmt::Formatter<W>) -> fmt::Result {
+        for refused in self.0 {
+            writeln!(f, "{refused}")?;
+        }
+        Ok(())
     }
 }
 
-fn push_refusal(text: &mut String, refused: Refused) -> Result<(), AllocError>
-    ensures { OnOk result (string_bytes text.new ≡ string_bytes text.old ++ refusal_text refused) }
-{
-    let Refused { command, refusal } = refused;
-    let Refusal { number, layer } = refusal;
-    push_shown(text, format_args!("refused {command} {number} {layer}\n"))
+/// The last line: `met`, or `unmet` with the number of the first row that is not met.
+#[derive(Clone, Copy)]
+struct Verdict(Option<u32>);
+
+impl Display for Verdict {
+    ghost output = { λ verdict. Some (verdict_text verdict.0) };
+
+    fn fmt<W: fmt::Write>(&self, f: &mut fmt::Formatter<W>) -> fmt::Result {
+        match self.0 {
+            None => writeln!(f, "met"),
+            Some(row) => writeln!(f, "unmet {row}"),
+        }
+    }
 }
 
 /// Appends a line for each refusal, in their order: `refused 4 2 1` for the command 4, refused with the number 2 by the layer 1.
 pub fn push_refusals(text: &mut String, refusals: &[Refused]) -> Result<(), AllocError>
     ensures { OnOk result (string_bytes text.new ≡ string_bytes text.old ++ refusals_text refusals.now) }
 {
-    for refused in refusals {
-        push_refusal(text, *refused)?;
-    }
-    Ok(())
+    push_shown(text, Refusals(refusals))
 }
 
 /// Appends the line `inputs 0 witnesses 3 rows 3`.
@@ -53,8 +69,5 @@ pub fn push_counts(
 pub fn push_verdict(text: &mut String, first_unmet: Option<u32>) -> Result<(), AllocError>
     ensures { OnOk result (string_bytes text.new ≡ string_bytes text.old ++ verdict_text first_unmet) }
 {
-    match first_unmet {
-        None => text.push_str("met\n"),
-        Some(row) => push_shown(text, format_args!("unmet {row}\n")),
-    }
+    push_shown(text, Verdict(first_unmet))
 }

@@ -1,91 +1,93 @@
-ghost use Rattle.std.specs.Prelude.{◌≡◌, ◌<◌, ◌≤◌, ◌++◌, length, IfOk, string_bytes, OnOk};
-ghost use Rattle.systems.specs.Held.{state, meant_by, Sound};
+ghost use Rattle.std.specs.Prelude.{◌≡◌, ◌<◌, ◌≤◌, ◌++◌, length, vec_len, IfOk, string_bytes, OnOk};
+ghost use Rattle.systems.specs.Held.{state, meant_by};
 ghost use Rattle.systems.specs.Outline.{working};
 ghost use Rattle.report.specs.Text.{rows_text, report_text};
-ghost use Rattle.report.specs.Sheet.{page_of, part_text, line_text, Counted};
+ghost use Rattle.report.specs.Sheet.{page_of, part_text, line_text};
 
 use crate::lines::{push_counts, push_refusals, push_verdict};
 use crate::sums::push_sum;
 use command::Refused;
 use field::Field;
 use std::alloc::{AllocError, Global};
-use systems::{Counts, Lent, Part, Valued};
+use systems::{Counts, Part, Valued};
 
-/// Writes out one of a row's sums and appends it. The slice is the memory that it is written into.
-fn push_part<'a, F: Field>(
-    text: &mut String,
-    system: &Valued<Lent<'a>>,
-    counts: Counts,
-    row: usize,
-    part: Part,
-    out: &mut [u32],
-) -> Result<(), AllocError>
-    requires good { Sound F.Field.modulus system.now.inner }
-    requires counted { Counted (meant_by system.now.inner) counts }
-    requires within { row < length (meant_by system.now.inner).rows }
-    requires fits { working (state system.now.inner) ≤ length out.old }
-    ensures { OnOk result (string_bytes text.new ≡ string_bytes text.old ++ part_text F.Field.modulus (meant_by system.now.inner) row part) }
-{
-    let width = 1 + counts.inputs + counts.witnesses;
-    system.coefficients::<F>(row, part, out);
-    push_sum(text, &out[..width], counts.inputs)
+/// A system whose rows are written out, with the words that a sum is written into.
+#[derive(Drop)]
+struct Sheet<'s, 'a, F: Field> {
+    system: &'s Valued<'a, F>,
+    words: Vec<u32>,
+    ghost room: { working (state system.now) ≤ vec_len words },
 }
 
-/// Appends a row's three sums as a line: `1 w0 ; 1 w1 ; 1 w2`.
-fn push_row<'a, F: Field>(
-    text: &mut String,
-    system: &Valued<Lent<'a>>,
-    counts: Counts,
-    row: usize,
-    out: &mut [u32],
-) -> Result<(), AllocError>
-    requires good { Sound F.Field.modulus system.now.inner }
-    requires counted { Counted (meant_by system.now.inner) counts }
-    requires within { row < length (meant_by system.now.inner).rows }
-    requires fits { working (state system.now.inner) ≤ length out.old }
-    ensures { OnOk result (string_bytes text.new ≡ string_bytes text.old ++ line_text F.Field.modulus (meant_by system.now.inner) row) }
-{
-    push_part::<F>(text, system, counts, row, Part::A, out)?;
-    text.push_str(" ; ")?;
-    push_part::<F>(text, system, counts, row, Part::B, out)?;
-    text.push_str(" ; ")?;
-    push_part::<F>(text, system, counts, row, Part::C, out)?;
-    text.push_str("\n")
-}
-
-/// Appends a line for each row.
-fn push_rows<'a, F: Field>(
-    text: &mut String,
-    system: &Valued<Lent<'a>>,
-    counts: Counts,
-    out: &mut [u32],
-) -> Result<(), AllocError>
-    requires good { Sound F.Field.modulus system.now.inner }
-    requires counted { Counted (meant_by system.now.inner) counts }
-    requires fits { working (state system.now.inner) ≤ length out.old }
-    ensures { OnOk result (string_bytes text.new ≡ string_bytes text.old ++ rows_text (page_of F.Field.modulus (meant_by system.now.inner)).inputs (page_of F.Field.modulus (meant_by system.now.inner)).rows) }
-{
-    for row in 0..counts.rows {
-        push_row::<F>(text, system, counts, row, out)?;
+impl<'s, 'a, F: Field> Sheet<'s, 'a, F> {
+    /// A sheet of a system, with as many words as it takes.
+    fn new(heap: Global, system: &'s Valued<'a, F>) -> Result<Sheet<'s, 'a, F>, AllocError>
+        ensures { IfOk result (λ sheet. sheet.system ≡ system.entry) }
+    {
+        let words = vec![in heap; 0; system.working_words()]?;
+        Ok(Sheet { system, words })
     }
-    Ok(())
+
+    /// Writes out one of a row's sums and appends it.
+    fn push_part(&mut self, text: &mut String, row: usize, part: Part) -> Result<(), AllocError>
+        requires { row < length (meant_by self.old.system.now).rows }
+        ensures same { self.new.system ≡ self.old.system }
+        ensures text { OnOk result (string_bytes text.new ≡ string_bytes text.old ++ part_text F.Field.modulus (meant_by self.old.system.now) row part) }
+    {
+        let Counts {
+            inputs,
+            witnesses,
+            ..
+        } = self.system.counts();
+        let Ok(()) = self.system.coefficients(row, part, &mut self.words) else {
+            unreachable!();
+        };
+        push_sum(text, &self.words[..1 + inputs + witnesses], inputs)
+    }
+
+    /// Appends a row's three sums as a line: `1 w0 ; 1 w1 ; 1 w2`.
+    fn push_row(&mut self, text: &mut String, row: usize) -> Result<(), AllocError>
+        requires { row < length (meant_by self.old.system.now).rows }
+        ensures same { self.new.system ≡ self.old.system }
+        ensures text { OnOk result (string_bytes text.new ≡ string_bytes text.old ++ line_text F.Field.modulus (meant_by self.old.system.now) row) }
+    {
+        self.push_part(text, row, Part::A)?;
+        text.push_str(" ; ")?;
+        self.push_part(text, row, Part::B)?;
+        text.push_str(" ; ")?;
+        self.push_part(text, row, Part::C)?;
+        text.push_str("\n")
+    }
+
+    /// Appends a line for each row.
+    fn push_rows(&mut self, text: &mut String) -> Result<(), AllocError>
+        ensures { OnOk result (string_bytes text.new ≡ string_bytes text.old ++ rows_text (page_of F.Field.modulus (meant_by self.old.system.now)).inputs (page_of F.Field.modulus (meant_by self.old.system.now)).rows) }
+    {
+        for row in 0..self.system.counts().rows {
+            self.push_row(text, row)?;
+        }
+        Ok(())
+    }
 }
 
 /// The text of a whole run: the refusals, the counts, the rows written out, and the verdict.
 pub fn report<'a, F: Field>(
     heap: Global,
     refusals: &[Refused],
-    system: &Valued<Lent<'a>>,
+    system: &Valued<'a, F>,
 ) -> Result<String, AllocError>
-    requires { Sound F.Field.modulus system.now.inner }
-    ensures { IfOk result (λ text. string_bytes text ≡ report_text refusals.now (page_of F.Field.modulus (meant_by system.now.inner))) }
+    ensures { IfOk result (λ text. string_bytes text ≡ report_text refusals.now (page_of F.Field.modulus (meant_by system.now))) }
 {
-    let counts = system.counts();
+    let Counts {
+        inputs,
+        witnesses,
+        rows,
+        ..
+    } = system.counts();
     let mut text = String::new(heap);
     push_refusals(&mut text, refusals)?;
-    push_counts(&mut text, counts.inputs, counts.witnesses, counts.rows)?;
-    let mut out = vec![in heap; 0; system.working_words::<F>()]?;
-    push_rows::<F>(&mut text, system, counts, &mut out)?;
-    push_verdict(&mut text, system.first_unmet::<F>())?;
+    push_counts(&mut text, inputs, witnesses, rows)?;
+    Sheet::new(heap, system)?.push_rows(&mut text)?;
+    push_verdict(&mut text, system.first_unmet())?;
     Ok(text)
 }

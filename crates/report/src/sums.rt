@@ -1,37 +1,84 @@
-ghost use Rattle.std.specs.Prelude.{◌≡◌, ◌++◌, string_bytes, OnOk};
-ghost use Rattle.report.specs.Text.{name_text, term_text, link_text, sum_text};
+ghost use Rattle.std.specs.Prelude.{◌≡◌, ◌++◌, Some, string_bytes, OnOk};
+ghost use Rattle.report.specs.Text.{name_text, term_text, sum_text};
 
 use crate::lines::push_shown;
 use std::alloc::AllocError;
+use std::fmt;
+use std::fmt::Display;
 
-/// Appends the name of the variable with the index `k`: `one`, then the inputs `i0`, `i1`, .., then the witnesses `w0`, `w1`, ..
-fn push_name(text: &mut String, k: usize, inputs: usize) -> Result<(), AllocError>
-    ensures { OnOk result (string_bytes text.new ≡ string_bytes text.old ++ name_text inputs k) }
-{
-    if k == 0 {
-        text.push_str("one")
-    } else if k <= inputs {
-        let input = k - 1;
-        push_shown(text, format_args!("i{input}"))
-    } else {
-        let witness = k - 1 - inputs;
-        push_shown(text, format_args!("w{witness}"))
+/// The name of the variable with an index: `one`, then the inputs `i0`, `i1`, .., then the witnesses `w0`, `w1`, ..
+#[derive(Clone, Copy)]
+struct Name {
+    index: usize,
+    inputs: usize,
+}
+
+impl Display for Name {
+    ghost output = { λ name. Some (name_text name.inputs name.index) };
+
+    fn fmt<W: fmt::Write>(&self, f: &mut fmt::Formatter<W>) -> fmt::Result {
+        let Name { index, inputs } = *self;
+        if index == 0 {
+            f.write_str("one")
+        } else if index <= inputs {
+            write!(f, "i{}", index - 1)
+        } else {
+            write!(f, "w{}", index - 1 - inputs)
+        }
     }
 }
 
-/// Appends a term, and before it a plus where it is not the first.
-fn push_term(
-    text: &mut String,
-    first: bool,
+/// A term: `100 w0`.
+#[derive(Clone, Copy)]
+struct Term {
     coefficient: u32,
-    k: usize,
+    name: Name,
+}
+
+impl Display for Term {
+    ghost output = { λ term. Some (term_text term.name.inputs term.name.index term.coefficient) };
+
+    fn fmt<W: fmt::Write>(&self, f: &mut fmt::Formatter<W>) -> fmt::Result {
+        let Term { coefficient, name } = *self;
+        write!(f, "{coefficient} {name}")
+    }
+}
+
+/// A sum, by its coefficients: that of one first, then those of the inputs, then those of the witnesses.
+#[derive(Clone, Copy)]
+struct Sum<'a> {
+    coefficients: &'a [u32],
     inputs: usize,
-) -> Result<(), AllocError>
-    ensures { OnOk result (string_bytes text.new ≡ string_bytes text.old ++ (link_text first ++ term_text inputs k coefficient)) }
-{
-    let link = if first { "" } else { " + " };
-    push_shown(text, format_args!("{link}{coefficient} "))?;
-    push_name(text, k, inputs)
+}
+
+impl Sum<'_> {
+    /// The term of a coefficient with this index.
+    fn term(&self, index: usize, coefficient: u32) -> Term
+        ensures { result ≡ record { coefficient = coefficient; name = record { index = index; inputs = self.now.inputs } } }
+    {
+        let inputs = self.inputs;
+        let name = Name { index, inputs };
+        Term { coefficient, name }
+    }
+}
+
+impl Display for Sum<'_> {
+    ghost output = { λ sum. Some (sum_text sum.inputs sum.coefficients.now) };
+
+    fn fmt<W: fmt::Write>(&self, f: &mut fmt::Formatter<W>) -> fmt::Result {
+        let mut indexed = self.coefficients.iter().enumerate();
+        let Some((index, coefficient)) = indexed.find(|(_, coefficient)| **coefficient != 0) else {
+            return f.write_str("0");
+        };
+        write!(f, "{}", self.term(index, *coefficient))?;
+        // No `filter` here: a `for` over an iterator that holds a closure gets no proof in a generic function.
+        for (index, coefficient) in indexed {
+            if *coefficient != 0 {
+                write!(f, " + {}", self.term(index, *coefficient))?;
+            }
+        }
+        Ok(())
+    }
 }
 
 /// Appends a sum by its coefficients, that of one first, then those of the inputs, then those of the witnesses: `1 one + 100 w0`.
@@ -39,12 +86,9 @@ fn push_term(
 pub fn push_sum(text: &mut String, coefficients: &[u32], inputs: usize) -> Result<(), AllocError>
     ensures { OnOk result (string_bytes text.new ≡ string_bytes text.old ++ sum_text inputs coefficients.now) }
 {
-    let mut first = true;
-    for (k, coefficient) in coefficients.iter().enumerate() {
-        if *coefficient != 0 {
-            push_term(text, first, *coefficient, k, inputs)?;
-            first = false;
-        }
-    }
-    if first { text.push_str("0") } else { Ok(()) }
+    let sum = Sum {
+        coefficients,
+        inputs,
+    };
+    push_shown(text, sum)
 }

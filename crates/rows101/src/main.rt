@@ -7,21 +7,19 @@ use std::io;
 use std::io::{ErrorKind, Read};
 use systems::Rooms;
 
-/// The rooms of the system, each 1,024.
-fn rooms() -> Rooms {
-    Rooms {
-        inputs: 1024,
-        witnesses: 1024,
-        terms: 1024,
-        rows: 1024,
-    }
-}
+/// The rooms of the system.
+const ROOMS: Rooms = Rooms {
+    inputs: 1024,
+    witnesses: 1024,
+    terms: 1024,
+    rows: 1024,
+};
 
 fn main(rt: HostRuntime) -> io::Result<()> {
     let heap = rt.alloc();
     let mut tape = Vec::new(heap);
     rt.stdin().take(4096).read_to_end(&mut tape)?;
-    match print::<F101>(heap, rooms(), 4096, 4096, &tape) {
+    match print::<F101>(heap, ROOMS, 4096, 4096, &tape) {
         Ok(text) => rt.print(text),
         Err(PrintFault::Memory) => Err(ErrorKind::OutOfMemory.into()),
         Err(PrintFault::Open(_)) => Err(ErrorKind::InvalidInput.into()),
