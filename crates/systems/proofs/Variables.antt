@@ -4,19 +4,15 @@ use Rattle.relations.specs.declared.term.Variable.TheVariants.{Input, Witness}
 use Rattle.relations.specs.declared.term.Side.{Side}
 use Rattle.relations.specs.declared.term.Side.TheVariants.{Input as input, Witness as witness}
 use Rattle.relations.specs.declared.fault.SystemFault.{SystemFault}
-use Rattle.relations.specs.declared.fault.SystemFault.TheVariants.{MissingValue, InputsFull, WitnessesFull}
+use Rattle.relations.specs.declared.fault.SystemFault.TheVariants.{MissingValue}
 use Rattle.relations.specs.Meaning.{Ran, new_variable}
 use Rattle.words.specs.State.{State, Fit, view}
+use Rattle.systems.specs.Held.{at_side}
 use Rattle.systems.proofs.Grown.{Done}
 use Rattle.systems.proofs.Calls.{inputs_to, witnesses_to, input_full, witness_full, input_missing, witness_missing, input_new, witness_new}
 
--- how many variables a side has, its room, and what a full one is refused with
 abbrev pub Side_state : Type 0
 Side_state = ℕ × ℕ × SystemFault
-
-abbrev pub at_side : State → Side → Side_state
-at_side s input = (s.inputs, s.input_room, InputsFull)
-at_side s witness = (s.witnesses, s.witness_room, WitnessesFull)
 
 full_at : (s : State) (d : Side) (o : Option ℕ) → Fit s → (at_side s d).1 ≤ (at_side s d).0 → Ran (new_variable d o) (view s) (Err (at_side s d).2) (view s)
 full_at s input o f h = (input_full s o f h).does

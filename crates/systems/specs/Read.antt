@@ -1,8 +1,10 @@
 -- The words of a system, as its parts are read.
 use Rattle.std.specs.Prelude.{◌≡◌}
 use Rattle.words.specs.declared.read.Reader.{Reader}
+use Rattle.words.specs.declared.scan.Row.{Row}
 use Rattle.words.specs.declared.scan.Rows.{Rows}
 use Rattle.words.specs.declared.scan.Combinations.{Combinations}
+use Rattle.words.specs.Words.{Triple, stored}
 use Rattle.words.specs.State.{State}
 use Rattle.written.specs.declared.writer.Writer.{Writer}
 use Rattle.systems.specs.Outline.{outline}
@@ -15,6 +17,11 @@ pub record Reading (s : State) (r : Reader) : Type 0 where
   pub witnesses : r.witnesses ≡ s.witnesses
   pub front : r.front ≡ s.front
   pub modulus : r.modulus ≡ s.modulus
+
+pub record RowRead (t : Triple) (r : Row) : Type 0 where
+  pub a : stored r.a.now ≡ t.a
+  pub b : stored r.b.now ≡ t.b
+  pub c : stored r.c.now ≡ t.c
 
 pub record RowsRead (s : State) (r : Rows) : Type 0 where
   pub words : r.words.now ≡ s.row_words

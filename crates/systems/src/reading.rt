@@ -3,8 +3,8 @@ ghost use Rattle.relations.specs.declared.fault.SystemFault.TheVariants.{MarkRef
 ghost use Rattle.relations.specs.Sum.{sum_of, all_in};
 ghost use Rattle.relations.specs.Meaning.{has, has_all, has_row, assigned};
 ghost use Rattle.words.specs.Words.{pairs, plain, rows as stored_rows, row_at, meant, triples_in};
-ghost use Rattle.systems.specs.Read.{Reading, RowsRead, CombinationsRead, Writing};
-ghost use Rattle.systems.specs.Held.{state, meant_by, Sized, Refused, CutAt, Barred};
+ghost use Rattle.systems.specs.Read.{Reading, RowRead, RowsRead, CombinationsRead, Writing};
+ghost use Rattle.systems.specs.Held.{state, meant_by, at_side, Sized, Refused, CutAt, Barred};
 ghost use Rattle.systems.specs.Unmet.{met, first_unmet};
 ghost use Rattle.systems.specs.Outline.{outline, width, working, row_sum, coefficients, outlining};
 
@@ -12,10 +12,10 @@ use crate::rooms::{Counts, OutlineFault};
 use crate::store::{Part, place, takes};
 use crate::valued::Valued;
 use field::Field;
-use relations::{SystemFault, Term, Variable};
+use relations::{Side, SystemFault, Term, Variable};
 use words::merge::{HandedRow, Sizes};
 use words::read::{Reader, code_of, multiply_add};
-use words::scan::{Bounds, Combinations, Rows};
+use words::scan::{Bounds, Combinations, Row, Rows};
 use written::writer::Writer;
 
 /// Where the combinations end and the terms of rows begin.
@@ -78,6 +78,24 @@ impl<'a, F: Field> Valued<'a, F> {
         }
     }
 
+    // How many variables a side has, how many it takes, and what a full one is refused with.
+    pub(crate) fn side(&self, side: Side) -> (usize, usize, SystemFault)
+        ensures { result ≡ at_side (state self.now) side }
+    {
+        match side {
+            Side::Input => (
+                self.store.inputs,
+                self.store.input_room,
+                SystemFault::InputsFull,
+            ),
+            Side::Witness => (
+                self.store.witnesses,
+                self.store.witness_room,
+                SystemFault::WitnessesFull,
+            ),
+        }
+    }
+
     // Whether a variable is there.
     pub(crate) fn has(&self, variable: Variable) -> bool
         ensures { result ≡ has (meant_by self.now) variable }
@@ -119,13 +137,21 @@ impl<'a, F: Field> Valued<'a, F> {
         self.reader().worth(ts)
     }
 
+    // The terms of row i.
+    fn row(&self, i: usize) -> Row<'_>
+        requires { i < self.now.store.count }
+        ensures { RowRead (row_at i self.now.store.rows.now self.now.store.terms.now) result }
+    {
+        self.rows().row(i)
+    }
+
     // Whether the kept values meet row i.
     fn row_met(&self, i: usize) -> bool
         requires { i < self.now.store.count }
         ensures { result ≡ met self.now.store.modulus (assigned (meant_by self.now)) (meant self.now.store.modulus (row_at i self.now.store.rows.now self.now.store.terms.now)) }
     {
         let reader = self.reader();
-        let row = self.rows().row(i);
+        let row = self.row(i);
         let (a, b) = (reader.worth_stored(row.a), reader.worth_stored(row.b));
         multiply_add(self.store.modulus, a, b, 0) == reader.worth_stored(row.c)
     }

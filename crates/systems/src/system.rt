@@ -19,18 +19,7 @@ impl<'a, F: Field> System<F> for Valued<'a, F> {
         ensures adds { Adds (meant_by self.old) (stored_by self.old) (meant_by self.new) (stored_by self.new) }
         ensures leaves { Leaves result (stored_by self.old) (stored_by self.new) }
     {
-        let (n, room, full) = match side {
-            Side::Input => (
-                self.store.inputs,
-                self.store.input_room,
-                SystemFault::InputsFull,
-            ),
-            Side::Witness => (
-                self.store.witnesses,
-                self.store.witness_room,
-                SystemFault::WitnessesFull,
-            ),
-        };
+        let (n, room, full) = self.side(side);
         if n >= room {
             return Err(full);
         }
