@@ -111,8 +111,22 @@ for f, t in texts.items():
 show("2c. Types and traits that share most of three or more members",
      [f"{a} and {b}" for a, b in itertools.combinations(members, 2)
       if len(members[a] & members[b]) >= 3 and len(members[a] & members[b]) >= 0.75 * max(len(members[a]), len(members[b]))])
-show("3. Loops that count an index by hand",
-     grep(r"\bwhile [^{]*[<>][^{]*\{[^}]*?[-+]= [^;]*;|\bfor \w+ in [^{]*\.\.[^{]*\{", re.S))
+
+
+def indexing():
+    """`while` loops that step a counter, and `for` loops over numbers that index a slice."""
+    out = []
+    for f, t in texts.items():
+        for m in re.finditer(r"\bwhile [^{]*[<>][^{]*\{|\bfor (\w+) in [^{]*\.\.[^{]*\{", t):
+            body = t[m.end():close(t, m.end() - 1, "{", "}")]
+            counted = re.search(r"[-+]= |(\w+) = \1 [-+]", body) if not m.group(1) else re.search(
+                rf"\[[^\]]*\b{m.group(1)}\b|= [^;]*\b{m.group(1)}\b[^;]*;[^}}]*\[at\b", body)
+            if counted:
+                out.append(f"{f}:{t.count(chr(10), 0, m.start()) + 1} {' '.join(m.group(0).split())}")
+    return out
+
+
+show("3. Loops that count an index by hand", indexing())
 show("4a. Conversions by hand: one value in, a `match` or a pattern on it, another out",
      [f.where() for f in functions if f.name not in ("from", "fmt") and len(f.params) == 1 and "&" not in f.params[0] and f.result
       and re.match(r"\s*(let [^;]* = match|match|let \w+ \{[^}]*\} =) ?(self|\w+)?", f.body)])

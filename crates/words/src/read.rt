@@ -4,6 +4,7 @@ ghost use Rattle.words.specs.Words.{there, all_there, word_of, worth, Reads, pai
 
 use relations::{Term, Variable};
 
+// A function, and not a `From`: the number is how words hold a variable, and means nothing elsewhere.
 /// A variable as a number: a tag in the lowest three bits, and above it an index or a heading's place.
 pub fn code_of(v: Variable) -> u64
     ensures { result ≡ code v }
