@@ -14,8 +14,8 @@ use Rattle.systems.proofs.Views.{worth_is}
 pub named_in : (s : State) (r : Reader) (t ts : Pairs) → Reading s r → t ≡ ts → all_in s.inputs s.witnesses s.front ts ≡ true → all_in r.inputs r.witnesses r.front t ≡ true
 named_in s r t ts e q h = (λ i. all_in (e.inputs i) (e.witnesses i) (e.front i) (q i)) ∙ h
 
-pub worth_in : (s : State) (r : Reader) (t ts : Pairs) (n : ℕ) → Fit s → Reading s r → t ≡ ts → all_in s.inputs s.witnesses s.front ts ≡ true → n ≡ worth r.modulus r.input_room r.values.now r.terms.now t → n ≡ value s.modulus (λ c. assigned (view s) (decode c)) ts
-worth_in s r t ts n f e q h w = w ∙ (λ i. worth (e.modulus i) (e.input_room i) (e.values i) (e.terms i) (q i)) ∙ worth_is s.modulus s ts f h
+pub worth_in : (s : State) (r : Reader) (t ts : Pairs) (n : ℕ) → Fit s → Reading s r → t ≡ ts → all_in s.inputs s.witnesses s.front ts ≡ true → n ≡ worth s.modulus r.input_room r.values.now r.terms.now t → n ≡ value s.modulus (λ c. assigned (view s) (decode c)) ts
+worth_in s r t ts n f e q h w = w ∙ (λ i. worth s.modulus (e.input_room i) (e.values i) (e.terms i) (q i)) ∙ worth_is s.modulus s ts f h
 
 -- what row i names is there
 pub row_named : (s : State) (i : ℕ) → Fit s → i < s.count → (all_in s.inputs s.witnesses s.front (row_at i s.row_words s.term_words).a ≡ true) × (all_in s.inputs s.witnesses s.front (row_at i s.row_words s.term_words).b ≡ true) × (all_in s.inputs s.witnesses s.front (row_at i s.row_words s.term_words).c ≡ true)

@@ -1,5 +1,6 @@
 -- The words of a system, as its parts are read.
 use Rattle.std.specs.Prelude.{◌≡◌}
+use Rattle.words.specs.declared.read.Names.{Names}
 use Rattle.words.specs.declared.read.Reader.{Reader}
 use Rattle.words.specs.declared.scan.Row.{Row}
 use Rattle.words.specs.declared.scan.Rows.{Rows}
@@ -9,6 +10,12 @@ use Rattle.words.specs.State.{State}
 use Rattle.written.specs.declared.writer.Writer.{Writer}
 use Rattle.systems.specs.Outline.{outline}
 
+pub record Naming (s : State) (n : Names) : Type 0 where
+  pub terms : n.terms.now ≡ s.term_words
+  pub inputs : n.inputs ≡ s.inputs
+  pub witnesses : n.witnesses ≡ s.witnesses
+  pub front : n.front ≡ s.front
+
 pub record Reading (s : State) (r : Reader) : Type 0 where
   pub values : r.values.now ≡ s.value_words
   pub terms : r.terms.now ≡ s.term_words
@@ -16,7 +23,6 @@ pub record Reading (s : State) (r : Reader) : Type 0 where
   pub inputs : r.inputs ≡ s.inputs
   pub witnesses : r.witnesses ≡ s.witnesses
   pub front : r.front ≡ s.front
-  pub modulus : r.modulus ≡ s.modulus
 
 pub record RowRead (t : Triple) (r : Row) : Type 0 where
   pub a : stored r.a.now ≡ t.a

@@ -3,7 +3,7 @@ ghost use Rattle.relations.specs.declared.fault.SystemFault.TheVariants.{MarkRef
 ghost use Rattle.relations.specs.Sum.{sum_of, all_in};
 ghost use Rattle.relations.specs.Meaning.{has, has_all, has_row, assigned};
 ghost use Rattle.words.specs.Words.{pairs, plain, rows as stored_rows, row_at, meant, triples_in};
-ghost use Rattle.systems.specs.Read.{Reading, RowRead, RowsRead, CombinationsRead, Writing};
+ghost use Rattle.systems.specs.Read.{Naming, Reading, RowRead, RowsRead, CombinationsRead, Writing};
 ghost use Rattle.systems.specs.Held.{state, meant_by, at_side, Sized, Refused, CutAt, Barred};
 ghost use Rattle.systems.specs.Unmet.{met, first_unmet};
 ghost use Rattle.systems.specs.Outline.{outline, width, working, row_sum, coefficients, outlining};
@@ -14,8 +14,8 @@ use crate::valued::Valued;
 use field::Field;
 use relations::{Side, SystemFault, Term, Variable};
 use words::merge::{HandedRow, Sizes};
-use words::read::{Reader, code_of, multiply_add};
-use words::scan::{Bounds, Combinations, Row, Rows};
+use words::read::{Names, Reader, code_of, multiply_add};
+use words::scan::{Bounds, Combinations, Row, Rows, floor_of};
 use written::writer::Writer;
 
 /// Where the combinations end and the terms of rows begin.
@@ -40,6 +40,18 @@ impl<'a, F: Field> Valued<'a, F> {
         }
     }
 
+    // What tells which variables are there.
+    fn names(&self) -> Names<'_>
+        ensures { Naming (state self.now) result }
+    {
+        Names {
+            terms: self.store.terms,
+            inputs: self.store.inputs,
+            witnesses: self.store.witnesses,
+            front: self.store.front,
+        }
+    }
+
     // The words, as they are read.
     fn reader(&self) -> Reader<'_>
         ensures { Reading (state self.now) result }
@@ -51,7 +63,6 @@ impl<'a, F: Field> Valued<'a, F> {
             inputs: self.store.inputs,
             witnesses: self.store.witnesses,
             front: self.store.front,
-            modulus: self.store.modulus,
         }
     }
 
@@ -100,14 +111,14 @@ impl<'a, F: Field> Valued<'a, F> {
     pub(crate) fn has(&self, variable: Variable) -> bool
         ensures { result ≡ has (meant_by self.now) variable }
     {
-        self.reader().has(variable)
+        self.names().has(variable)
     }
 
     // Whether all variables of some terms are.
     pub(crate) fn has_all(&self, ts: &[Term]) -> bool
         ensures { result ≡ has_all (meant_by self.now) ts.now }
     {
-        self.reader().has_all(ts)
+        self.names().has_all(ts)
     }
 
     // Whether all variables of a row's sums are.
@@ -134,7 +145,7 @@ impl<'a, F: Field> Valued<'a, F> {
         ensures is { result ≡ (sum_of self.now.store.modulus ts.now).value (assigned (meant_by self.now)) }
         ensures below { result < self.now.store.modulus }
     {
-        self.reader().worth(ts)
+        self.reader().worth(self.store.modulus, ts)
     }
 
     // The terms of row i.
@@ -150,10 +161,10 @@ impl<'a, F: Field> Valued<'a, F> {
         requires { i < self.now.store.count }
         ensures { result ≡ met self.now.store.modulus (assigned (meant_by self.now)) (meant self.now.store.modulus (row_at i self.now.store.rows.now self.now.store.terms.now)) }
     {
-        let reader = self.reader();
-        let row = self.row(i);
-        let (a, b) = (reader.worth_stored(row.a), reader.worth_stored(row.b));
-        multiply_add(self.store.modulus, a, b, 0) == reader.worth_stored(row.c)
+        let (p, reader, row) = (self.store.modulus, self.reader(), self.row(i));
+        let a = reader.worth_stored(p, row.a);
+        let b = reader.worth_stored(p, row.b);
+        multiply_add(p, a, b, 0) == reader.worth_stored(p, row.c)
     }
 
     /// The number of the first row that the kept values do not meet.
@@ -248,7 +259,7 @@ impl<'a, F: Field> Valued<'a, F> {
         }
         Ok(Ends {
             front: combinations.end,
-            back: rows.floor(to.rows),
+            back: floor_of(self.store.rows, self.store.term_room, to.rows),
         })
     }
 }

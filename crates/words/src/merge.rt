@@ -39,8 +39,7 @@ impl<'a> Merged<'a> {
         let mut a: u32 = 0;
         for t in self.terms {
             if read::code_of(t.variable) == c {
-                let k = read::counted_at(*t);
-                a = ((a as u64 + k as u64) % self.modulus as u64) as u32;
+                a = read::multiply_add(self.modulus, 1, read::counted_at(*t), a);
             }
         }
         a

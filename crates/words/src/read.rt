@@ -46,22 +46,18 @@ pub fn multiply_add(p: u32, k: u32, x: u32, sum: u32) -> u32
     ((k as u64 * x as u64 + sum as u64) % p as u64) as u32
 }
 
-/// The words of a system to be read: the kept values, inputs first and witnesses from the input room on, and the terms,
-/// of which those of combinations lie below `front`.
+/// What of a system's lists tells which variables are there: how many inputs and witnesses, and the terms, of which those of
+/// combinations lie below `front`.
 #[derive(Clone, Copy)]
-pub struct Reader<'a> {
-    pub values: &'a [u32],
+pub struct Names<'a> {
     pub terms: &'a [u32],
-    pub input_room: usize,
     pub inputs: usize,
     pub witnesses: usize,
     pub front: usize,
-    pub modulus: u32,
-    pub ghost nonzero: { 0 < modulus },
-    pub ghost reads: { Reads inputs witnesses front input_room values.now terms.now },
+    pub ghost lies: { (2 * front ≤ length terms.now) × (front ≤ 65536) },
 }
 
-impl<'a> Reader<'a> {
+impl<'a> Names<'a> {
     /// Whether a variable is a constant, one of the inputs and witnesses, or a heading's place below `front`.
     pub fn has(&self, variable: Variable) -> bool
         ensures { result ≡ there self.now.inputs self.now.witnesses self.now.front self.now.terms.now variable }
@@ -83,7 +79,22 @@ impl<'a> Reader<'a> {
     {
         ts.iter().all(|t| self.has(t.variable))
     }
+}
 
+/// The words of a system to be read: the kept values, inputs first and witnesses from the input room on, and the terms,
+/// of which those of combinations lie below `front`.
+#[derive(Clone, Copy)]
+pub struct Reader<'a> {
+    pub values: &'a [u32],
+    pub terms: &'a [u32],
+    pub input_room: usize,
+    pub inputs: usize,
+    pub witnesses: usize,
+    pub front: usize,
+    pub ghost reads: { Reads inputs witnesses front input_room values.now terms.now },
+}
+
+impl<'a> Reader<'a> {
     /// The word that is kept for the variable with the code c: 1 for the constant, 0 for a place without a heading.
     pub fn word(&self, c: u64) -> u32
         requires { code_in self.now.inputs self.now.witnesses self.now.front c ≡ true }
@@ -100,33 +111,37 @@ impl<'a> Reader<'a> {
     }
 
     /// k times the word for the code c, and `sum` more, modulo p.
-    fn add(&self, sum: u32, c: u64, k: u32) -> u32
-        requires { code_in self.now.inputs self.now.witnesses self.now.front c ≡ true }
-        ensures { result ≡ (k * word_of self.now.input_room self.now.values.now self.now.terms.now (decode c) + sum) % self.now.modulus }
+    fn add(&self, p: u32, sum: u32, c: u64, k: u32) -> u32
+        requires modulus { 0 < p }
+        requires there { code_in self.now.inputs self.now.witnesses self.now.front c ≡ true }
+        ensures { result ≡ (k * word_of self.now.input_room self.now.values.now self.now.terms.now (decode c) + sum) % p }
     {
-        multiply_add(self.modulus, k, self.word(c), sum)
+        multiply_add(p, k, self.word(c), sum)
     }
 
     /// The value modulo p of handed terms under the kept words.
-    pub fn worth(&self, ts: &[Term]) -> u32
-        requires { all_in self.now.inputs self.now.witnesses self.now.front (handed ts.now) ≡ true }
-        ensures { result ≡ worth self.now.modulus self.now.input_room self.now.values.now self.now.terms.now (handed ts.now) }
+    pub fn worth(&self, p: u32, ts: &[Term]) -> u32
+        requires modulus { 0 < p }
+        requires there { all_in self.now.inputs self.now.witnesses self.now.front (handed ts.now) ≡ true }
+        ensures { result ≡ worth p self.now.input_room self.now.values.now self.now.terms.now (handed ts.now) }
     {
         let mut sum: u32 = 0;
         for t in ts.iter().rev() {
-            sum = self.add(sum, code_of(t.variable), counted_at(*t));
+            sum = self.add(p, sum, code_of(t.variable), counted_at(*t));
         }
         sum
     }
 
+    // The same loop as that of `worth`, over terms of another type: one function over both would take an iterator, and a contract that lists what it yields.
     /// The value modulo p of stored terms under the kept words.
-    pub fn worth_stored(&self, terms: &[[u32; 2]]) -> u32
-        requires { all_in self.now.inputs self.now.witnesses self.now.front (stored terms.now) ≡ true }
-        ensures { result ≡ worth self.now.modulus self.now.input_room self.now.values.now self.now.terms.now (stored terms.now) }
+    pub fn worth_stored(&self, p: u32, terms: &[[u32; 2]]) -> u32
+        requires modulus { 0 < p }
+        requires there { all_in self.now.inputs self.now.witnesses self.now.front (stored terms.now) ≡ true }
+        ensures { result ≡ worth p self.now.input_room self.now.values.now self.now.terms.now (stored terms.now) }
     {
         let mut sum: u32 = 0;
         for [c, k] in terms.iter().rev() {
-            sum = self.add(sum, *c as u64, *k);
+            sum = self.add(p, sum, *c as u64, *k);
         }
         sum
     }

@@ -1,10 +1,30 @@
 ghost use Rattle.std.specs.Prelude.{◌≡◌, ℕ, ◌+◌, ◌-◌, ◌*◌, ◌/◌, ◌%◌, ◌<◌, ◌≤◌, length, take, slice_index, MatchOption};
 ghost use Rattle.std.specs.Iterator.{at_most};
 ghost use Rattle.relations.specs.Sum.{code_in, all_in};
-ghost use Rattle.words.specs.Words.{stored, combinations, TakenOff, Chain, Tagged, lists_in, Stack, part, row_at, triple_in, triples_in, rows as stored_rows, floor};
+ghost use Rattle.words.specs.Words.{stored, heading, combinations, TakenOff, Chain, Tagged, lists_in, Stack, part, row_at, triple_in, triples_in, rows as stored_rows, floor};
 ghost use Rattle.words.specs.Once.{Chain-prop, Stack-prop};
 
 use crate::read::stored_terms;
+
+/// How many terms the combination that ends at `end` has.
+pub fn length_at(words: &[u32], end: usize) -> usize
+    requires { (0 < end) × (2 * end ≤ length words.now) × (end ≤ 65536) }
+    ensures { result ≡ heading end words.now }
+{
+    (words[2 * (end - 1)] / 8) as usize
+}
+
+/// Where the terms of the first r rows begin, which lie from `top` down.
+pub fn floor_of(rows: &[u32], top: usize, r: usize) -> usize
+    requires { (r ≤ 65536) × (6 * r ≤ length rows.now) }
+    ensures { result ≡ floor top r rows.now }
+{
+    if r == 0 {
+        top
+    } else {
+        rows[6 * (r - 1) + 4] as usize
+    }
+}
 
 /// The combinations that end at a place of the words, from the newest down: for each the place of its heading, and its terms.
 #[derive(Clone, Copy)]
@@ -47,7 +67,7 @@ impl<'a> Iterator for Combinations<'a> {
             return None;
         }
         let place = self.end - 1;
-        let len = (self.words[2 * place] / 8) as usize;
+        let len = length_at(self.words, self.end);
         let start = place - len;
         let terms = stored_terms(self.words, start, len);
         *self = Combinations {
@@ -102,18 +122,6 @@ impl<'a> Rows<'a> {
             a: self.part(6 * i),
             b: self.part(6 * i + 2),
             c: self.part(6 * i + 4),
-        }
-    }
-
-    /// Where the terms of the first r rows begin.
-    pub fn floor(&self, r: usize) -> usize
-        requires { r ≤ self.now.count }
-        ensures { result ≡ floor self.now.top r self.now.words.now }
-    {
-        if r == 0 {
-            self.top
-        } else {
-            self.words[6 * (r - 1) + 4] as usize
         }
     }
 }

@@ -4,18 +4,18 @@ use Rattle.systems.proofs.Readers.{named_in, row_named, worth_in}
 use Rattle.systems.proofs.Unmet.{met_is}
 use Rattle.systems.proofs.valued.Valued.row_met.Goals as goal
 
-pub worth_stored-a-requires : goal.worth_stored-a-requires
-worth_stored-a-requires g c =
+pub worth_stored-a-requires-clause-there : goal.worth_stored-a-requires-clause-there
+worth_stored-a-requires-clause-there g c =
     let s = state c.args.self.now in
     named_in s c.reader-reader.result _ _ c.reader-reader.ensures c.row-row.ensures.a (row_named s c.args.i c.args.self.now.fit c.requires).0
 
-pub worth_stored-b-requires : goal.worth_stored-b-requires
-worth_stored-b-requires g c =
+pub worth_stored-b-requires-clause-there : goal.worth_stored-b-requires-clause-there
+worth_stored-b-requires-clause-there g c =
     let s = state c.args.self.now in
     named_in s c.reader-reader.result _ _ c.reader-reader.ensures c.row-row.ensures.b (row_named s c.args.i c.args.self.now.fit c.requires).1
 
-pub worth_stored-requires : goal.worth_stored-requires
-worth_stored-requires g c =
+pub worth_stored-requires-clause-there : goal.worth_stored-requires-clause-there
+worth_stored-requires-clause-there g c =
     let s = state c.args.self.now in
     named_in s c.reader-reader.result _ _ c.reader-reader.ensures c.row-row.ensures.c (row_named s c.args.i c.args.self.now.fit c.requires).2
 

@@ -7,8 +7,8 @@ use Rattle.systems.proofs.Views.{has_all_in, worth_below}
 use Rattle.systems.proofs.Readers.{named_in, worth_in}
 use Rattle.systems.proofs.valued.Valued.worth.Goals as goal
 
-pub worth-requires : goal.worth-requires
-worth-requires g c =
+pub worth-requires-clause-there : goal.worth-requires-clause-there
+worth-requires-clause-there g c =
     let s = state c.args.self.now in
     named_in s c.reader.result (handed c.args.ts.now) (handed c.args.ts.now) c.reader.ensures refl (has_all_in s c.args.ts.now c.args.self.now.fit c.requires)
 

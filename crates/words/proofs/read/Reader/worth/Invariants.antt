@@ -5,4 +5,4 @@ use Rattle.words.proofs.Worths.{Adding}
 use Rattle.words.proofs.read.Reader.worth.Given as goal
 
 abbrev pub invariant-loop-t : goal.invariant-loop-t
-invariant-loop-t l = Adding l.self.modulus l.self.input_room l.self.inputs l.self.witnesses l.self.front l.sum l.self.values.now l.self.terms.now (handed (iter_rest (rev_source l.t-iterator))) (handed l.ts)
+invariant-loop-t l = Adding l.p l.self.input_room l.self.inputs l.self.witnesses l.self.front l.sum l.self.values.now l.self.terms.now (handed (iter_rest (rev_source l.t-iterator))) (handed l.ts)

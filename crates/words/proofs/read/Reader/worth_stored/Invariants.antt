@@ -5,4 +5,4 @@ use Rattle.words.proofs.Worths.{Adding}
 use Rattle.words.proofs.read.Reader.worth_stored.Given as goal
 
 abbrev pub invariant-loop-c : goal.invariant-loop-c
-invariant-loop-c l = Adding l.self.modulus l.self.input_room l.self.inputs l.self.witnesses l.self.front l.sum l.self.values.now l.self.terms.now (stored (iter_rest (rev_source l.c-iterator))) (stored l.terms)
+invariant-loop-c l = Adding l.p l.self.input_room l.self.inputs l.self.witnesses l.self.front l.sum l.self.values.now l.self.terms.now (stored (iter_rest (rev_source l.c-iterator))) (stored l.terms)

@@ -5,7 +5,7 @@ use Rattle.std.proofs.lemmas.Iterator.Search.{all_from_yields_List}
 use Rattle.relations.specs.declared.term.Term.{Term}
 use Rattle.words.specs.Words.{there}
 use Rattle.words.proofs.Each.{all_there_each}
-use Rattle.words.proofs.read.Reader.has_all.Goals as goal
+use Rattle.words.proofs.read.Names.has_all.Goals as goal
 
 pub returns : goal.returns
 returns c =
