@@ -80,6 +80,7 @@ impl LooseBit {
         (LooseBit { variable }, value)
     }
 
+    // Three slices, as a row is handed to a system.
     /// Moves the bit into the row that forces it. Where the row is refused the bit is spent all the same.
     fn forced<F: Field, S: System<F>>(
         self,
@@ -154,6 +155,7 @@ impl AllocatedBool {
         let y = cs.value(b)?;
         let w = cs.new_variable(Side::Witness, gate_value(gate, x, y))?;
         let output = LooseBit { variable: w };
+        // An arm for each row, since the rows differ in how many terms they have.
         match gate {
             Gate::And => output.forced(cs, &just(a), &just(b), &just(w)),
             Gate::Or => output.forced(cs, &one_less::<F>(a), &one_less::<F>(b), &one_less::<F>(w)),

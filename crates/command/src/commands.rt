@@ -10,6 +10,7 @@ pub enum Kind {
 /// A command as its bytes say, before any operand is looked at: an operand is the number of an answer of the book.
 #[derive(Clone, Copy)]
 pub enum Command {
+    // Bytes, and not a mode and a value: a byte that stands for none is refused as an operand, after the command is known.
     Bit(u8, u8),
     Clone(u32),
     Not(u32),

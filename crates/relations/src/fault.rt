@@ -53,7 +53,7 @@ pub enum Layer {
 }
 
 /// A refusal as it is told to the tape's writer: the numbers of its reason and of the layer that it comes from.
-// Numbers, and not the two enums: by the format of a run's text this is what is told of a refusal, and no code decides by it.
+// Two numbers, and not the two enums: a run's text and the definitions tell a refusal by its numbers, and a caller may print one of its own.
 #[derive(Clone, Copy)]
 pub struct Refusal {
     pub number: u32,

@@ -7,6 +7,7 @@ use crate::fault::SystemFault;
 use crate::term::{Mark, Side, Term, Variable};
 use field::Field;
 
+// Each call says what it does, what it adds and what it leaves: facts about the system before and after it, which no invariant of a value can hold.
 /// A constraint system over a field. What it is stands in `meaning`, and each call does one step of that; the words in which it
 /// is stored stand in `stored`. No call asks for anything: what has to hold of the words is an invariant of the type.
 pub trait System<F: Field> {
@@ -26,7 +27,7 @@ pub trait System<F: Field> {
         ensures adds { Adds (meaning self.old) (stored self.old) (meaning self.new) (stored self.new) }
         ensures leaves { Leaves result (stored self.old) (stored self.new) };
 
-    // Three slices, and not a struct of them: a row is A, B and C wherever it is written, and a struct would only name them once more.
+    // Three slices, and not a struct: a gadget writes them as literals at the call, where the names of a struct's fields would stand beside each.
     /// A new row.
     fn enforce_constraint(&mut self, a: &[Term], b: &[Term], c: &[Term]) -> Result<(), SystemFault>
         ensures does { Ran (enforce F.Field.modulus a.now b.now c.now) (meaning self.old) result (meaning self.new) }

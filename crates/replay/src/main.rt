@@ -10,7 +10,7 @@ use std::alloc::{AllocError, Global};
 use std::{fs, io};
 use systems::Rooms;
 
-/// The rooms of the system.
+/// The rooms of the system, as rows101 has them, which as a program exports nothing.
 const ROOMS: Rooms = Rooms {
     inputs: 1024,
     witnesses: 1024,

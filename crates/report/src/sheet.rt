@@ -45,6 +45,7 @@ impl<'s, 'a, F: Field> Sheet<'s, 'a, F> {
         push_sum(text, &self.words[..1 + inputs + witnesses], inputs)
     }
 
+    // No `Display`: each sum is written into the same words before it is shown, so a row is no value of its own.
     /// Appends a row's three sums as a line: `1 w0 ; 1 w1 ; 1 w2`.
     fn push_row(&mut self, text: &mut String, row: usize) -> Result<(), AllocError>
         requires { row < length (meant_by self.old.system.now).rows }

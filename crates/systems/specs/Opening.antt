@@ -38,6 +38,7 @@ nothing = record { inputs = []; witnesses = []; combos = []; rows = []; terms = 
 -- a system just opened over the field with p elements: empty, over the lent words as they are
 pub record Opened {F : Type 0} {G : Ghosts F} (p : ℕ) (r : Rooms) (vs ts rs : List ℕ) (v : Valued F G) : Type 0 where
   pub fits : opening r (length vs) (length ts) (length rs) ≡ None
+  pub prime : v.store.modulus ≡ p
   pub means : meant_by v ≡ empty true r.inputs r.witnesses r.terms r.rows false
   pub stored : stored_by v ≡ nothing
   pub values : v.values.now ≡ vs

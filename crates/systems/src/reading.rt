@@ -215,6 +215,7 @@ impl<'a, F: Field> Valued<'a, F> {
         if row >= self.store.count {
             return Err(OutlineFault::NoSuchRow);
         }
+        // By place and length, and not by a slice of terms: what is written out is defined from the words.
         let at = place(row, part);
         let (start, len) = (self.store.rows[at], self.store.rows[at + 1]);
         self.writer().write_out(out, start as usize, len as usize)?;

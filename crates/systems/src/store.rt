@@ -66,6 +66,8 @@ impl<'a> Store<'a> {
         self.combinations = combinations + 1;
     }
 
+    // The row carries the modulus that its sums are merged by: it is built before there is room, and the store's is the same.
+
     // Writes a row whose parts have these sizes after the last one.
     pub(crate) fn add_row(&mut self, row: HandedRow, sizes: Sizes)
         requires parts { PartsFit row.modulus self.old.back sizes.a sizes.b sizes.c row.a.now row.b.now row.c.now self.old.terms.now }

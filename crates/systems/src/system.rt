@@ -27,6 +27,7 @@ impl<'a, F: Field> System<F> for Valued<'a, F> {
             return Err(SystemFault::MissingValue);
         };
         let number = x.to_number();
+        // Two arms, since the two counts are two fields.
         match side {
             Side::Input => {
                 self.values[n] = number;
@@ -108,18 +109,7 @@ impl<'a, F: Field> System<F> for Valued<'a, F> {
     }
 
     fn rewind(&mut self, mark: Mark) -> Result<(), SystemFault> {
-        let Mark {
-            inputs,
-            witnesses,
-            combinations,
-            rows,
-        } = mark;
-        let to = Counts {
-            inputs: inputs as usize,
-            witnesses: witnesses as usize,
-            combinations: combinations as usize,
-            rows: rows as usize,
-        };
+        let to = Counts::from(mark);
         let Ends { front, back } = self.cut(to)?;
         self.store.inputs = to.inputs;
         self.store.witnesses = to.witnesses;

@@ -95,6 +95,7 @@ pub struct Reader<'a> {
 }
 
 impl<'a> Reader<'a> {
+    // The tag is looked at here, in `Bounds::has` and where cells are counted: each asks another thing of it, and a variable made of it would be asked again.
     /// The word that is kept for the variable with the code c: 1 for the constant, 0 for a place without a heading.
     pub fn word(&self, c: u64) -> u32
         requires { code_in self.now.inputs self.now.witnesses self.now.front c ≡ true }

@@ -1,5 +1,5 @@
 use Rattle.std.proofs.Common.{◌≡◌, true, false, refl, sym, ◌∙◌}
-use Rattle.words.specs.Words.{combinations, lists_in, rows, triples_in, floor}
+use Rattle.words.specs.Words.{combinations, lists_in, rows, triples_in}
 use Rattle.systems.specs.Held.{state}
 use Rattle.systems.proofs.Rewinds.{long_inputs, long_witnesses, long_lcs, long_rows, names_cut, verdict, Firsts, firsts}
 use Rattle.systems.proofs.valued.Valued.cut.Goals.{then-to-self-via-then-to-self, then-to-self-via-else-to-self+then-to-self-2, then-to-self-via-else-to-self+else-to-self-2+then-to-self-3, then-to-self-via-else-to-self+else-to-self-2+else-to-self-3+then-to-self-4, then-not-has_combinations-via-then-not-has_combinations, then-not-has_combinations-via-else-not-has_combinations+then-not-has_rows}
