@@ -111,6 +111,8 @@ impl<'a> Reader<'a> {
         }
     }
 
+    // The modulus stays a parameter, here and of `worth`: in the struct `word` would ask for it too, which needs none.
+
     /// k times the word for the code c, and `sum` more, modulo p.
     fn add(&self, p: u32, sum: u32, c: u64, k: u32) -> u32
         requires modulus { 0 < p }
