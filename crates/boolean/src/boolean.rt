@@ -40,6 +40,8 @@ impl Boolean {
         }
     }
 
+    // Matches, here and below, and no table of functions: the scripts go by the same cases, and a contract can say that of data.
+
     /// The steps of a gate on a bit and a constant: none but, where the gate turns the bit over, those of `not`.
     fn folded<F: Field, S: System<F>>(
         self,

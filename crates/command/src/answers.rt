@@ -57,6 +57,7 @@ pub enum Action {
 }
 
 impl Answer {
+    // A method, and not a `From`: it asks something of an answer, and a kind is none.
     /// Whether the answer is a bit or a number.
     pub fn kind(self) -> Kind
         ensures { result ≡ kind_of self }

@@ -26,6 +26,7 @@ fn names_bit<B: Kinds>(book: &B, a: u32) -> bool
     book.kind(a) == Some(Kind::Bit)
 }
 
+// A match on the command, as in its definition.
 /// Whether a command's operands name answers of the right kinds and its bytes are among their values.
 fn is_fit<B: Kinds>(command: Command, book: &B) -> bool
     ensures { result ≡ fits command (B.Kinds.kinds book.now) }

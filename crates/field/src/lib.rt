@@ -127,7 +127,7 @@ where
         }
     }
 
-    // The code of a plain remainder is its number.
+    // The code of a plain remainder is its number. By a pattern, so that the two methods, which happen to answer the same here, stay two texts.
     fn to_number(self) -> u32 {
         let Residue { code: number } = self;
         number

@@ -50,6 +50,7 @@ pub fn push_refusals(text: &mut String, refusals: &[Refused]) -> Result<(), Allo
     push_shown(text, Refusals(refusals))
 }
 
+// No type of its own: the three counts are shown in this one line, and `format_args!` is a `Display` already.
 /// Appends the line `inputs 0 witnesses 3 rows 3`.
 pub fn push_counts(
     text: &mut String,

@@ -18,6 +18,7 @@ pub fn code_of(v: Variable) -> u64
     }
 }
 
+// A function, and not a `From`: it asks something of a term, and a number that counts is no term.
 /// What a term's coefficient counts: nothing at the variable zero.
 pub fn counted_at(t: Term) -> u32
     ensures { result ≡ counted t.variable t.coefficient }

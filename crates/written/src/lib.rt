@@ -5,6 +5,7 @@ ghost use Rattle.written.specs.Cells.{cells, cell as cell_of, Small};
 
 pub mod writer;
 
+// Beside `Names` of words, which borrows the words besides and asks them to be long enough: cells are counted from numbers alone.
 /// How many inputs, witnesses and combinations there are, and how many places the combinations take.
 #[derive(Clone, Copy)]
 pub struct Counts {
