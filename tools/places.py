@@ -130,7 +130,7 @@ show("3. Loops that count an index by hand", indexing())
 show("4a. Conversions by hand: one value in, a `match` or a pattern on it, another out",
      [f.where() for f in functions if f.name not in ("from", "fmt") and len(f.params) == 1 and "&" not in f.params[0] and f.result
       and re.match(r"\s*(let [^;]* = match|match|let \w+ \{[^}]*\} =) ?(self|\w+)?", f.body)])
-show("4b. Text pushed piece by piece", grep(r"push_shown\([^;]*?format_args!", re.S))
+show("4b. Text pushed piece by piece", grep(r"push_shown\([^;}]*?format_args!", re.S))
 groups = {}
 for f in functions:
     names = [p for p in f.params if p not in ("self", "&self", "&mut self")]
