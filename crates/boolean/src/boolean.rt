@@ -29,6 +29,8 @@ impl Boolean {
         AllocatedBool::variable_steps(cs, side, value).map(Boolean::Var)
     }
 
+    // Matches, here and below, and no table of functions: the scripts go by the same cases, and a contract can say that of data.
+
     /// The steps of `not`.
     pub fn not_steps<F: Field, S: System<F>>(self, cs: &mut S) -> Result<Boolean, GadgetFault>
         ensures does { Ran (run F.Field.modulus (not_script F.Field.modulus self)) (S.System.meaning cs.old) result (S.System.meaning cs.new) }
@@ -39,8 +41,6 @@ impl Boolean {
             Boolean::Var(a) => a.not_steps(cs).map(Boolean::Var),
         }
     }
-
-    // Matches, here and below, and no table of functions: the scripts go by the same cases, and a contract can say that of data.
 
     /// The steps of a gate on a bit and a constant: none but, where the gate turns the bit over, those of `not`.
     fn folded<F: Field, S: System<F>>(

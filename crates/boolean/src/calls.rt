@@ -15,6 +15,7 @@ impl<F: Field, S: System<F>> Gadget<F, S> for BooleanCall {
 
     ghost model = { λ g. call_script F.Field.modulus g };
 
+    // A match, as in the definition of a call's script.
     fn steps(&self, cs: &mut S) -> Result<Boolean, GadgetFault> {
         match *self {
             BooleanCall::Allocate(mode, value) => Boolean::alloc_steps(cs, value, mode),

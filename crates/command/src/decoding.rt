@@ -4,6 +4,7 @@ ghost use Rattle.command.specs.Tape.{takes, decoded};
 use crate::commands::{Command, Decoded};
 use allocated::Gate;
 
+// A table, which answers none where it has no line, and no conversion of a type.
 /// How many bytes the command with an opcode takes, none where there is no such command.
 pub fn command_length(opcode: u8) -> Option<usize>
     ensures { result ≡ takes opcode }

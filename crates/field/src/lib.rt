@@ -127,14 +127,13 @@ where
         }
     }
 
-    // The code of a plain remainder is its number. By a pattern, so that the two methods, which happen to answer the same here, stay two texts.
     fn to_number(self) -> u32 {
-        let Residue { code: number } = self;
-        number
+        self.code
     }
 
+    // The code of a plain remainder is its number.
     fn code(self) -> u32 {
-        self.code
+        Field::to_number(self)
     }
 
     fn is_zero(self) -> bool {

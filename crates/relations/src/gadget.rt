@@ -34,9 +34,9 @@ pub fn call<F: Field, S: System<F>, G: Gadget<F, S>>(
             cs.keep(mark);
             Ok(answer)
         }
-        Err(fault) => match cs.rewind(mark) {
-            Ok(()) => Err(fault),
-            Err(refused) => Err(GadgetFault::System(refused)),
-        },
+        Err(fault) => {
+            cs.rewind(mark)?;
+            Err(fault)
+        }
     }
 }

@@ -107,6 +107,8 @@ impl<'a, F: Field> Valued<'a, F> {
         }
     }
 
+    // What follows hands on to what reads the words, and says in the words of the meaning what is said there in its own.
+
     // Whether a variable is there.
     pub(crate) fn has(&self, variable: Variable) -> bool
         ensures { result ≡ has (meant_by self.now) variable }
@@ -200,7 +202,7 @@ impl<'a, F: Field> Valued<'a, F> {
     pub fn working_words(&self) -> usize
         ensures { result ≡ working (state self.now) }
     {
-        1 + self.store.inputs + self.store.witnesses + self.store.front
+        self.writer().counts.cells()
     }
 
     /// Writes out one of the sums of a row, with each combination replaced by its terms: the coefficients of One, of the
@@ -222,6 +224,7 @@ impl<'a, F: Field> Valued<'a, F> {
         Ok(())
     }
 
+    // The row carries the modulus, as in the store.
     // How many terms the parts of a row take, if its variables are there and its terms find room.
     pub(crate) fn sizes(&self, row: HandedRow) -> Result<Sizes, SystemFault>
         requires { row.modulus ≡ self.now.store.modulus }

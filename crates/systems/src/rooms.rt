@@ -5,7 +5,7 @@ ghost use Rattle.systems.specs.Opening.{of_opening, opening, Opened};
 use crate::store::Store;
 use crate::valued::Valued;
 use field::Field;
-use relations::{Layer, Mark, Reason, Refusal};
+use relations::{Layer, Reason, Refusal};
 use std::marker::PhantomData;
 use written::writer::TooShort;
 
@@ -37,25 +37,6 @@ pub enum OpenFault {
     ShortRows,
 }
 
-impl From<Mark> for Counts {
-    ghost from_gives = { λ m r. r ≡ record { inputs = m.inputs; witnesses = m.witnesses; combinations = m.combinations; rows = m.rows } };
-
-    fn from(mark: Mark) -> Counts {
-        let Mark {
-            inputs,
-            witnesses,
-            combinations,
-            rows,
-        } = mark;
-        Counts {
-            inputs: inputs as usize,
-            witnesses: witnesses as usize,
-            combinations: combinations as usize,
-            rows: rows as usize,
-        }
-    }
-}
-
 /// Why one of the sums of a row is not written out: there is no such row, or too few words to write it into.
 #[derive(Clone, Copy)]
 pub enum OutlineFault {
@@ -85,6 +66,7 @@ impl From<OpenFault> for Refusal {
     }
 }
 
+// Three slices, since the memory of a system is lent.
 /// Opens an empty system over lent words, if no room is above 65,536 and the words are enough for the rooms.
 pub fn open<'a, F: Field>(
     rooms: Rooms,

@@ -53,6 +53,8 @@ pub(crate) fn place(row: usize, part: Part) -> usize
 }
 
 impl<'a> Store<'a> {
+    // What is added carries the modulus that it is merged by: it is built before its room is known, and the store's is the same.
+
     // Writes a combination of n terms with its kept value after the last one.
     pub(crate) fn add_combination(&mut self, terms: Merged, n: usize, kept: u32)
         requires fits { LcFits terms.modulus self.old.front n kept terms.terms.now self.old.terms.now }
@@ -65,8 +67,6 @@ impl<'a> Store<'a> {
         self.front = front + n + 1;
         self.combinations = combinations + 1;
     }
-
-    // The row carries the modulus that its sums are merged by: it is built before there is room, and the store's is the same.
 
     // Writes a row whose parts have these sizes after the last one.
     pub(crate) fn add_row(&mut self, row: HandedRow, sizes: Sizes)

@@ -109,7 +109,19 @@ impl<'a, F: Field> System<F> for Valued<'a, F> {
     }
 
     fn rewind(&mut self, mark: Mark) -> Result<(), SystemFault> {
-        let to = Counts::from(mark);
+        // Taken apart here, and by no `From`: a mark is spent by its system alone.
+        let Mark {
+            inputs,
+            witnesses,
+            combinations,
+            rows,
+        } = mark;
+        let to = Counts {
+            inputs: inputs as usize,
+            witnesses: witnesses as usize,
+            combinations: combinations as usize,
+            rows: rows as usize,
+        };
         let Ends { front, back } = self.cut(to)?;
         self.store.inputs = to.inputs;
         self.store.witnesses = to.witnesses;

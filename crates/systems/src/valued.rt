@@ -7,6 +7,7 @@ use crate::store::Store;
 use field::Field;
 use std::marker::PhantomData;
 
+// The values are a lent slice, as the words of its store are.
 /// A constraint system over lent words that keeps the value of each variable: beside the store a word for each input, and
 /// from the input room on a word for each witness.
 #[derive(Drop)]

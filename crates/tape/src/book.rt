@@ -4,7 +4,7 @@ use boolean::Boolean;
 use command::{Answer, Kind, Kinds, TapeFault};
 
 /// The answers so far, in the order in which they came, over a lent slice: as many places as it has, and at most 4,096.
-// The slice and the count of its used places stand in place of a vector, since the memory of a run is lent and this crate allocates none.
+// A slice and the count of its used places, and not a vector: the places of a book are lent by the caller of a run, and a book never allocates.
 #[derive(Drop)]
 pub struct Book<'a> {
     answers: &'a mut [Answer],

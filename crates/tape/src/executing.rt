@@ -14,6 +14,7 @@ use command::{Action, Answer, Command, TapeFault, check, mode_of, value_of};
 use field::Field;
 use relations::{GadgetFault, System, call};
 
+// Matches, here and in `perform`, and no table of functions: what a command asks for is data, as its definition is.
 /// What a command asks for, its operands looked up in the book.
 fn resolve(command: Command, book: &Book) -> Action
     ensures { result ≡ action_of command (held_by book.now) }

@@ -128,7 +128,7 @@ impl<'a> Iterator for Counting<'a> {
     }
 }
 
-// Its own type beside `HandedRow` and `Row`, and not one type with a parameter: each of the three has methods of its own.
+// Its own type beside `HandedRow` and `Row`, and not one type with a parameter: `HandedRow` has an invariant besides, and no method would be shared.
 /// How many terms the parts of a row have.
 #[derive(Clone, Copy)]
 pub struct Sizes {

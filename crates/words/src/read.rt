@@ -82,6 +82,7 @@ impl<'a> Names<'a> {
     }
 }
 
+// Not over a `Names`, whose bounds it has among its own: both would have to be shown wherever one is made.
 /// The words of a system to be read: the kept values, inputs first and witnesses from the input room on, and the terms,
 /// of which those of combinations lie below `front`.
 #[derive(Clone, Copy)]

@@ -29,7 +29,7 @@ pub struct Writer<'a> {
 }
 
 impl<'a> Writer<'a> {
-    // The words that are written into stay a parameter: a struct that borrows them with their length would be made anew at each call.
+    // The words that are written into stay a parameter: each clause speaks of them before and after, and a struct would only add its name to each.
 
     // Adds k times x to the coefficient of the variable with the code c.
     fn add_term(&self, out: &mut [u32], k: u32, c: u32, x: u32)

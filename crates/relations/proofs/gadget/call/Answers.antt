@@ -13,8 +13,8 @@ returns-in-Ok g c =
       leaves = tt;
     }
 
-pub returns-in-Ok-rewind : goal.returns-in-Ok-rewind
-returns-in-Ok-rewind g c =
+pub returns-in_ok-rewind-in-Err : goal.returns-in_ok-rewind-in-Err
+returns-in_ok-rewind-in-Err g c =
     let start = c.mark-mark.ensures in
     let p = g.F.Field.modulus in
     let s = g.G.Gadget.model c.args.gadget.now in
@@ -27,19 +27,19 @@ returns-in-Ok-rewind g c =
     record { inputs = start.inputs; witnesses = start.witnesses; combos = start.combinations; rows = start.rows } in
     let begun = c.in-Err.ensures.adds m t (begins_refl m t start.words) in
     let ran = c.in-Err.ensures.does in
-    let re = c.in-Ok-rewind.ensures.does in
-    let same = words_back p s m n o c.in-Err.fault (Ok tt) k.inputs k.witnesses k.combinations k.rows t (g.S.System.stored c.steps.new.cs) (g.S.System.stored c.rewind.new.self) start.sane at ran re begun c.in-Ok-rewind.ensures.cuts in
+    let re = c.in_ok-rewind-in-Err.ensures.does in
+    let same = words_back p s m n o c.in-Err.fault (Ok tt) k.inputs k.witnesses k.combinations k.rows t (g.S.System.stored c.steps.new.cs) (g.S.System.stored c.rewind.new.self) start.sane at ran re begun c.in_ok-rewind-in-Err.ensures.cuts in
     record {
       does = undone p s m n o c.in-Err.fault (Ok tt) k.inputs k.witnesses k.combinations k.rows start.sane at ran re;
       adds = λ l u h. same_begins m o l t (g.S.System.stored c.rewind.new.self) u (system_back p s m n o c.in-Err.fault (Ok tt) k.inputs k.witnesses k.combinations k.rows start.sane at ran re) same h;
       leaves = same;
     }
 
-pub returns-in-Err-rewind : goal.returns-in-Err-rewind
-returns-in-Err-rewind g c =
+pub returns-in_err-rewind-in-Err : goal.returns-in_err-rewind-in-Err
+returns-in_err-rewind-in-Err g c =
     let start = c.mark-mark.ensures in
     let m = g.S.System.meaning c.args.cs.now in
     let k = c.mark-mark.result in
     let at : Marks m k.inputs k.witnesses k.combinations k.rows =
     record { inputs = start.inputs; witnesses = start.witnesses; combos = start.combinations; rows = start.rows } in
-    absurd (never_stuck g.F.Field.modulus (g.G.Gadget.model c.args.gadget.now) m (g.S.System.meaning c.steps.new.cs) (g.S.System.meaning c.rewind.new.self) c.in-Err.fault c.in-Err-rewind.refused k.inputs k.witnesses k.combinations k.rows start.sane at c.in-Err.ensures.does c.in-Err-rewind.ensures.does)
+    absurd (never_stuck g.F.Field.modulus (g.G.Gadget.model c.args.gadget.now) m (g.S.System.meaning c.steps.new.cs) (g.S.System.meaning c.rewind.new.self) c.in-Err.fault c.in_err-rewind-in-Err.field-0.0 k.inputs k.witnesses k.combinations k.rows start.sane at c.in-Err.ensures.does c.in_err-rewind-in-Err.ensures.does)
