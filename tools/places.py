@@ -37,7 +37,7 @@ class Function:
         # The body is the first brace that no clause opens; a method of a trait ends in a semicolon.
         at, self.clauses, self.body = closed + 1, [], ""
         head = text[at:]
-        result = re.match(r"\s*(->\s*([^{;\n]*))?", head)
+        result = re.match(r"\s*(->\s*((?:[^{;\n]|;(?=[^\n]*\]))*))?", head)
         self.result = (result.group(2) or "").strip()
         at += result.end()
         while True:
@@ -91,12 +91,15 @@ def tokens(text):
     return out
 
 
-bodies = [(f, tokens(f.body)) for f in functions if f.body.strip() and not tested(f.file) and f.name not in ("main", "from", "fmt")]
+# A body that only fills a struct is left out, and so are pairs whose operators differ.
+bodies = [(f, tokens(f.body)) for f in functions if f.body.strip() and not tested(f.file) and f.name not in ("main", "from", "fmt")
+          and not re.fullmatch(r"\s*\w+ \{[^{}]*\}\s*", f.body)]
+operators = lambda ts: sorted(t for t in ts if t in "+-*/%<>!&|")
 twins = []
 for (f, a), (g, b) in itertools.combinations(bodies, 2):
     # Functions that hand on to one call are compared as well, where all but a name or a constant is the same.
     least, alike = (12, 0.9) if min(len(a), len(b)) < 30 else (30, 0.8)
-    if f.name != g.name and min(len(a), len(b)) >= least and difflib.SequenceMatcher(None, a, b, False).ratio() >= alike:
+    if f.name != g.name and operators(a) == operators(b) and min(len(a), len(b)) >= least and difflib.SequenceMatcher(None, a, b, False).ratio() >= alike:
         twins.append(f"{f.where()} and {g.where()}")
 show("2a. Functions whose bodies differ in names or constants", twins)
 show("2b. A method that hands on to the same method of a field",
