@@ -80,7 +80,7 @@ impl LooseBit {
         (LooseBit { variable }, value)
     }
 
-    // Three slices, as a row is handed to a system.
+    // Three slices, which the gates hand over as three literals.
     /// Moves the bit into the row that forces it. Where the row is refused the bit is spent all the same.
     fn forced<F: Field, S: System<F>>(
         self,

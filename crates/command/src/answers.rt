@@ -57,7 +57,7 @@ pub enum Action {
 }
 
 impl Answer {
-    // A method, and not a `From`: it asks something of an answer, and a kind is none.
+    // A method, and not a `From`: it asks what an answer is, and does not turn it into something else.
     /// Whether the answer is a bit or a number.
     pub fn kind(self) -> Kind
         ensures { result ≡ kind_of self }

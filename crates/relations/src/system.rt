@@ -27,7 +27,7 @@ pub trait System<F: Field> {
         ensures adds { Adds (meaning self.old) (stored self.old) (meaning self.new) (stored self.new) }
         ensures leaves { Leaves result (stored self.old) (stored self.new) };
 
-    // Three slices, and not a struct: a gadget writes them as literals at the call, where the names of a struct's fields would stand beside each.
+    // Three slices, here and below, and not a struct: gates hand on three literals, and a struct would only add the name of a field to each.
     /// A new row.
     fn enforce_constraint(&mut self, a: &[Term], b: &[Term], c: &[Term]) -> Result<(), SystemFault>
         ensures does { Ran (enforce F.Field.modulus a.now b.now c.now) (meaning self.old) result (meaning self.new) }

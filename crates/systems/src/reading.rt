@@ -224,8 +224,8 @@ impl<'a, F: Field> Valued<'a, F> {
         Ok(())
     }
 
-    // The row carries the modulus, as in the store.
-    // How many terms the parts of a row take, if its variables are there and its terms find room.
+    // How many terms the parts of a row take, if its variables are there and its terms find room. The row
+    // carries its modulus, as what is added to a store does.
     pub(crate) fn sizes(&self, row: HandedRow) -> Result<Sizes, SystemFault>
         requires { row.modulus ≡ self.now.store.modulus }
         ensures { MatchResult result (λ n. Sized (state self.now) row.entry.a.now row.entry.b.now row.entry.c.now n.a n.b n.c) (Refused (state self.now) row.entry.a.now row.entry.b.now row.entry.c.now) }

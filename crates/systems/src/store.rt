@@ -53,7 +53,7 @@ pub(crate) fn place(row: usize, part: Part) -> usize
 }
 
 impl<'a> Store<'a> {
-    // What is added carries the modulus that it is merged by: it is built before its room is known, and the store's is the same.
+    // What is added carries its modulus, which is that of the store: it is built before it is known whether there is room.
 
     // Writes a combination of n terms with its kept value after the last one.
     pub(crate) fn add_combination(&mut self, terms: Merged, n: usize, kept: u32)

@@ -18,7 +18,7 @@ pub fn code_of(v: Variable) -> u64
     }
 }
 
-// A function, and not a `From`: it asks something of a term, and a number that counts is no term.
+// A function, and not a `From`: it asks something of a term, and does not turn it into something else.
 /// What a term's coefficient counts: nothing at the variable zero.
 pub fn counted_at(t: Term) -> u32
     ensures { result ≡ counted t.variable t.coefficient }
@@ -47,8 +47,8 @@ pub fn multiply_add(p: u32, k: u32, x: u32, sum: u32) -> u32
     ((k as u64 * x as u64 + sum as u64) % p as u64) as u32
 }
 
-/// What of a system's lists tells which variables are there: how many inputs and witnesses, and the terms, of which those of
-/// combinations lie below `front`.
+/// Which variables a system has: how many inputs and witnesses there are, and the terms, of which those of combinations lie
+/// below `front`.
 #[derive(Clone, Copy)]
 pub struct Names<'a> {
     pub terms: &'a [u32],
@@ -98,7 +98,7 @@ pub struct Reader<'a> {
 
 impl<'a> Reader<'a> {
     // The tag is looked at here, in `Bounds::has` and where cells are counted: each asks another thing of it, and a variable made of it would be asked again.
-    /// The word that is kept for the variable with the code c: 1 for the constant, 0 for a place without a heading.
+    /// The word that is kept for the variable with the code c: 1 for a constant, 0 for a place without a heading.
     pub fn word(&self, c: u64) -> u32
         requires { code_in self.now.inputs self.now.witnesses self.now.front c ≡ true }
         ensures { result ≡ word_of self.now.input_room self.now.values.now self.now.terms.now (decode c) }
@@ -113,7 +113,7 @@ impl<'a> Reader<'a> {
         }
     }
 
-    // The modulus stays a parameter, here and of `worth`: in the struct `word` would ask for it too, which needs none.
+    // The modulus stays a parameter, here and of the two functions below: were it a field, `word` would ask for one too, and it needs none.
 
     /// k times the word for the code c, and `sum` more, modulo p.
     fn add(&self, p: u32, sum: u32, c: u64, k: u32) -> u32

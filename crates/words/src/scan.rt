@@ -37,7 +37,7 @@ pub struct Combinations<'a> {
 }
 
 impl<'a> Combinations<'a> {
-    /// The first k of them.
+    /// The oldest k of them: what is left where the newest are taken off.
     pub fn first(self, k: usize) -> Combinations<'a>
         requires { k ≤ self.left }
         ensures count { result.left ≡ k }
@@ -166,6 +166,7 @@ impl Bounds {
         true
     }
 
+    // Of a stored row, where `has_row` of systems asks of a handed one: other terms, and another question.
     /// Whether a row does.
     pub fn has_row(self, row: Row) -> bool
         ensures { result ≡ triple_in self.inputs self.witnesses self.places (record { a = stored row.entry.a.now; b = stored row.entry.b.now; c = stored row.entry.c.now }) }
