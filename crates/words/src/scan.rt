@@ -87,6 +87,7 @@ pub struct Row<'a> {
     pub c: &'a [[u32; 2]],
 }
 
+// Words by their places, and not `[u32; 6]`: the definitions number the words of a row, and no loop goes over rows alone.
 /// The first `count` rows: six words each, which say where in the terms, from `top` down, their parts lie.
 #[derive(Clone, Copy)]
 pub struct Rows<'a> {
