@@ -12,7 +12,7 @@ use Rattle.words.proofs.Cuts.{lies}
 use Rattle.words.proofs.Tables.{tabulate_same, tabulate_length}
 use Rattle.written.specs.declared.Counts.{Counts}
 use Rattle.written.specs.declared.writer.Writer.{Writer}
-use Rattle.written.specs.Cells.{cells, Lies, Over, Readable, written_out}
+use Rattle.written.specs.Cells.{cells, Lies, Over, written_out}
 use Rattle.written.proofs.Rows.{readable}
 use Rattle.systems.specs.declared.rooms.OutlineFault.{OutlineFault}
 use Rattle.systems.specs.declared.rooms.OutlineFault.TheVariants.{NoSuchRow, TooShort}
@@ -28,13 +28,6 @@ part_lies : (s : State) (part : Part) (i : ℕ) → Fit s → i < s.count → ge
 part_lies s A i f h = (lies s.term_room i s.count s.row_words h f.stack).a
 part_lies s B i f h = (lies s.term_room i s.count s.row_words h f.stack).b
 part_lies s C i f h = (lies s.term_room i s.count s.row_words h f.stack).c
-
--- and can be written out
-pub part_readable : (s : State) (part : Part) (i at : ℕ) (n : Counts) → at ≡ place part i → n ≡ outline s → Fit s → i < s.count → Readable s.modulus n (get_or s.row_words at 0) (get_or s.row_words (at + 1) 0) s.term_words
-part_readable s part i at n ea en f h =
-    subst (λ (x : ℕ). Readable s.modulus n (get_or s.row_words x 0) (get_or s.row_words (x + 1) 0) s.term_words) (sym ea)
-    (subst (λ (m : Counts). Readable s.modulus m (get_or s.row_words (place part i) 0) (get_or s.row_words (place part i + 1) 0) s.term_words) (sym en)
-    (readable s (get_or s.row_words (place part i) 0) (get_or s.row_words (place part i + 1) 0) f (part_lies s part i f h)))
 
 -- what comes out is the part's sum, written out
 pub part_written : (s : State) (part : Part) (i : ℕ) → i < s.count → written_out s.modulus (outline s) (get_or s.row_words (place part i) 0) (get_or s.row_words (place part i + 1) 0) s.term_words ≡ written s.modulus (view s) (row_sum part i (view s))
@@ -100,13 +93,6 @@ outlined_so s part i os qs h e l o =
       beyond = beyond_same (working s) os qs e o.beyond;
     }
 
-pub outlined : (s : State) (part : Part) (i at : ℕ) (n : Counts) (os qs : List ℕ) → at ≡ place part i → n ≡ outline s → i < s.count → length qs ≡ length os → cells n ≤ length os →
-    Over n (written_out s.modulus n (get_or s.row_words at 0) (get_or s.row_words (at + 1) 0) s.term_words) os qs → Outlined s part i os qs
-outlined s part i at n os qs ea en h e l o =
-    outlined_so s part i os qs h e (subst (λ (m : Counts). cells m ≤ length os) en l)
-    (subst (λ (m : Counts). Over m (written_out s.modulus m (get_or s.row_words (place part i) 0) (get_or s.row_words (place part i + 1) 0) s.term_words) os qs) en
-    (subst (λ (x : ℕ). Over n (written_out s.modulus n (get_or s.row_words x 0) (get_or s.row_words (x + 1) 0) s.term_words) os qs) ea o))
-
 -- ---- what writing a part of row i out comes to
 pub no_such_row : (s : State) (i l : ℕ) → s.count ≤ i → ◌≡◌ {A = Result (Unit {0}) OutlineFault} (Err NoSuchRow) (outlining (length (view s).rows) (working s) i l)
 no_such_row s i l h =
@@ -128,10 +114,12 @@ written_out_fits s i l h k =
 -- ---- through a writer
 pub part_lies_read : (s : State) (part : Part) (i at : ℕ) (ws : List ℕ) → at ≡ place part i → ws ≡ s.term_words → Fit s → i < s.count → Lies (get_or s.row_words at 0) (get_or s.row_words (at + 1) 0) ws
 part_lies_read s part i at ws ea e f h =
-    subst (λ (vs : List ℕ). Lies (get_or s.row_words at 0) (get_or s.row_words (at + 1) 0) vs) (sym e) (part_readable s part i at (outline s) ea refl f h).terms
+    subst (λ (vs : List ℕ). Lies (get_or s.row_words at 0) (get_or s.row_words (at + 1) 0) vs) (sym e)
+    (subst (λ (x : ℕ). Lies (get_or s.row_words x 0) (get_or s.row_words (x + 1) 0) s.term_words) (sym ea)
+    (readable s (get_or s.row_words (place part i) 0) (get_or s.row_words (place part i + 1) 0) f (part_lies s part i f h)).terms)
 
 pub outlined_read : (s : State) (part : Part) (i at : ℕ) (w : Writer) (os qs : List ℕ) → at ≡ place part i → Writing s w → i < s.count → length qs ≡ length os → cells w.counts ≤ length os →
     Over w.counts (written_out w.modulus w.counts (get_or s.row_words at 0) (get_or s.row_words (at + 1) 0) w.terms.now) os qs → Outlined s part i os qs
 outlined_read s part i at w os qs ea e h q l o =
-    outlined s part i at (outline s) os qs ea refl h q (subst (λ (m : Counts). cells m ≤ length os) e.counts l)
-    (subst (λ (x : Type 0). x) (λ j. Over (e.counts j) (written_out (e.modulus j) (e.counts j) (get_or s.row_words at 0) (get_or s.row_words (at + 1) 0) (e.terms j)) os qs) o)
+    outlined_so s part i os qs h q (subst (λ (m : Counts). cells m ≤ length os) e.counts l)
+    (subst (λ (x : Type 0). x) (λ j. Over (e.counts j) (written_out (e.modulus j) (e.counts j) (get_or s.row_words (ea j) 0) (get_or s.row_words (ea j + 1) 0) (e.terms j)) os qs) o)

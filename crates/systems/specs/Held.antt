@@ -4,10 +4,9 @@ use Rattle.field.specs.declared.Field.{Ghosts}
 use Rattle.systems.specs.declared.valued.Valued.{Valued}
 use Rattle.relations.specs.declared.term.Term.{Term}
 use Rattle.relations.specs.declared.fault.SystemFault.{SystemFault}
-use Rattle.relations.specs.declared.fault.SystemFault.TheVariants.{InputsFull, WitnessesFull}
 use Rattle.relations.specs.declared.term.Side.{Side}
 use Rattle.relations.specs.declared.term.Side.TheVariants.{Input as input, Witness as witness}
-use Rattle.relations.specs.Meaning.{Meaning, Stored, Ran, has_all, admit, enforce, may_cut}
+use Rattle.relations.specs.Meaning.{Meaning, Stored, Ran, has_all, admit, enforce, may_cut, full}
 use Rattle.words.specs.Words.{whole, combinations, Chain, Tagged, rows, floor, lists_in, triples_in}
 use Rattle.words.specs.State.{State, view, words_of}
 use Rattle.systems.specs.Stores.{beside}
@@ -23,8 +22,8 @@ stored_by v = words_of (state v)
 
 -- how many variables a side has, its room, and what a full one is refused with
 abbrev pub at_side : State → Side → ℕ × ℕ × SystemFault
-at_side s input = (s.inputs, s.input_room, InputsFull)
-at_side s witness = (s.witnesses, s.witness_room, WitnessesFull)
+at_side s input = (s.inputs, s.input_room, full input)
+at_side s witness = (s.witnesses, s.witness_room, full witness)
 
 -- a row whose variables are there and whose terms, la, lb and lc of them, find room
 pub record Sized (s : State) (a b c : List Term) (la lb lc : ℕ) : Type 0 where

@@ -11,7 +11,9 @@ pub returns-then-row-self-clause-done : goal.returns-then-row-self-clause-done
 returns-then-row-self-clause-done g c = no_such_row (state c.args.self.now) c.args.row (length c.args.out.now) c.if-row-self.true
 
 pub write_out-requires : goal.write_out-requires
-write_out-requires g c = part_lies_read (state c.args.self.now) c.args.part c.args.row c.place-at.result c.writer.result.terms.now c.place-at.ensures c.writer.ensures.terms c.args.self.now.fit c.if-row-self.false
+write_out-requires g c =
+    let which = c.args.part in
+    part_lies_read (state c.args.self.now) which c.args.row c.place-at.result c.writer.result.terms.now c.place-at.ensures c.writer.ensures.terms c.args.self.now.fit c.if-row-self.false
 
 pub returns-in_err-write_out-clause-done : goal.returns-in_err-write_out-clause-done
 returns-in_err-write_out-clause-done g c =
@@ -22,13 +24,14 @@ returns-in_err-write_out-clause-done g c =
 pub returns : goal.returns
 returns g c =
     let s = state c.args.self.now in
+    let which = c.args.part in
     let l : cells c.writer.result.counts ≤ length c.args.out.now = leb-true _ _ (sym c.in_ok-write_out.ensures.room) in
-    let o : Outlined s c.args.part c.args.row c.args.out.now c.write_out.new.out =
-    outlined_read s c.args.part c.args.row c.place-at.result c.writer.result c.args.out.now c.write_out.new.out c.place-at.ensures c.writer.ensures c.if-row-self.false c.write_out.auto.out l c.in_ok-write_out.ensures.written
+    let o : Outlined s which c.args.row c.args.out.now c.write_out.new.out =
+    outlined_read s which c.args.row c.place-at.result c.writer.result c.args.out.now c.write_out.new.out c.place-at.ensures c.writer.ensures c.if-row-self.false c.write_out.auto.out l c.in_ok-write_out.ensures.written
     in
     record {
       done = written_out_fits s c.args.row (length c.args.out.now) c.if-row-self.false (subst (λ (n : Counts). cells n ≤ length c.args.out.now) c.writer.ensures.counts l);
       refused = tt;
-      written = o.written ∙ ap (λ (p : ℕ). coefficients p (meant_by c.args.self.now) (row_sum c.args.part c.args.row (meant_by c.args.self.now))) c.args.self.now.prime;
+      written = o.written ∙ ap (λ (p : ℕ). coefficients p (meant_by c.args.self.now) (row_sum which c.args.row (meant_by c.args.self.now))) c.args.self.now.prime;
       beyond = o.beyond;
     }
