@@ -64,7 +64,7 @@ impl LooseBit {
         value: Option<bool>,
     ) -> Result<LooseBit, GadgetFault>
         ensures does { Ran (run F.Field.modulus (loose_script witness value)) (S.System.meaning cs.old) result (S.System.meaning cs.new) }
-        ensures adds { Adds (S.System.meaning cs.old) (S.System.stored cs.old) (S.System.meaning cs.new) (S.System.stored cs.new) }
+        ensures adds { Adds S.System.meaning S.System.stored S.System.knows cs.old cs.new }
     {
         let variable = cs.new_variable(Side::Witness, bit_value(value))?;
         Ok(LooseBit { variable })
@@ -90,7 +90,7 @@ impl LooseBit {
         c: &[Term],
     ) -> Result<AllocatedBool, GadgetFault>
         ensures does { Ran (run F.Field.modulus (row a.now b.now c.now (answer (allocated self.variable)))) (S.System.meaning cs.old) result (S.System.meaning cs.new) }
-        ensures adds { Adds (S.System.meaning cs.old) (S.System.stored cs.old) (S.System.meaning cs.new) (S.System.stored cs.new) }
+        ensures adds { Adds S.System.meaning S.System.stored S.System.knows cs.old cs.new }
     {
         let LooseBit { variable } = self;
         cs.enforce_constraint(a, b, c)?;
@@ -103,7 +103,7 @@ impl LooseBit {
         cs: &mut S,
     ) -> Result<AllocatedBool, GadgetFault>
         ensures does { Ran (run F.Field.modulus (booleanity F.Field.modulus self.variable)) (S.System.meaning cs.old) result (S.System.meaning cs.new) }
-        ensures adds { Adds (S.System.meaning cs.old) (S.System.stored cs.old) (S.System.meaning cs.new) (S.System.stored cs.new) }
+        ensures adds { Adds S.System.meaning S.System.stored S.System.knows cs.old cs.new }
     {
         let v = self.variable;
         self.forced(cs, &one_less::<F>(v), &just(v), &[])
@@ -125,7 +125,7 @@ impl AllocatedBool {
         value: Option<bool>,
     ) -> Result<AllocatedBool, GadgetFault>
         ensures does { Ran (run F.Field.modulus (new_bit F.Field.modulus side value)) (S.System.meaning cs.old) result (S.System.meaning cs.new) }
-        ensures adds { Adds (S.System.meaning cs.old) (S.System.stored cs.old) (S.System.meaning cs.new) (S.System.stored cs.new) }
+        ensures adds { Adds S.System.meaning S.System.stored S.System.knows cs.old cs.new }
     {
         let variable = cs.new_variable(side, bit_value(value))?;
         LooseBit { variable }.enforce_boolean(cs)
@@ -134,7 +134,7 @@ impl AllocatedBool {
     /// One less the bit.
     pub fn not_steps<F: Field, S: System<F>>(self, cs: &mut S) -> Result<AllocatedBool, GadgetFault>
         ensures does { Ran (run F.Field.modulus (not_allocated F.Field.modulus self)) (S.System.meaning cs.old) result (S.System.meaning cs.new) }
-        ensures adds { Adds (S.System.meaning cs.old) (S.System.stored cs.old) (S.System.meaning cs.new) (S.System.stored cs.new) }
+        ensures adds { Adds S.System.meaning S.System.stored S.System.knows cs.old cs.new }
     {
         let variable = cs.new_lc(&one_less::<F>(self.variable))?;
         Ok(AllocatedBool { variable })
@@ -148,7 +148,7 @@ impl AllocatedBool {
         cs: &mut S,
     ) -> Result<AllocatedBool, GadgetFault>
         ensures does { Ran (run F.Field.modulus (gate_script gate F.Field.modulus self other)) (S.System.meaning cs.old) result (S.System.meaning cs.new) }
-        ensures adds { Adds (S.System.meaning cs.old) (S.System.stored cs.old) (S.System.meaning cs.new) (S.System.stored cs.new) }
+        ensures adds { Adds S.System.meaning S.System.stored S.System.knows cs.old cs.new }
     {
         let (a, b) = (self.variable, other.variable);
         let x = cs.value(a)?;

@@ -14,6 +14,6 @@ pub trait AllocVar<V, F: Field, S: System<F>>: Sized {
 
     fn new_variable(cs: &mut S, value: Option<V>, mode: AllocationMode) -> Result<Self, GadgetFault>
         ensures does { Ran (whole (run F.Field.modulus (allocation F.Field.modulus mode value))) (S.System.meaning cs.old) result (S.System.meaning cs.new) }
-        ensures adds { Adds (S.System.meaning cs.old) (S.System.stored cs.old) (S.System.meaning cs.new) (S.System.stored cs.new) }
+        ensures adds { Adds S.System.meaning S.System.stored S.System.knows cs.old cs.new }
         ensures leaves { Leaves result (S.System.stored cs.old) (S.System.stored cs.new) };
 }

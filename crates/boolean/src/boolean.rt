@@ -17,7 +17,7 @@ impl Boolean {
         mode: AllocationMode,
     ) -> Result<Boolean, GadgetFault>
         ensures does { Ran (run F.Field.modulus (alloc_script F.Field.modulus mode value)) (S.System.meaning cs.old) result (S.System.meaning cs.new) }
-        ensures adds { Adds (S.System.meaning cs.old) (S.System.stored cs.old) (S.System.meaning cs.new) (S.System.stored cs.new) }
+        ensures adds { Adds S.System.meaning S.System.stored S.System.knows cs.old cs.new }
     {
         let side = match mode {
             AllocationMode::Constant => return value
@@ -34,7 +34,7 @@ impl Boolean {
     /// The steps of `not`.
     pub fn not_steps<F: Field, S: System<F>>(self, cs: &mut S) -> Result<Boolean, GadgetFault>
         ensures does { Ran (run F.Field.modulus (not_script F.Field.modulus self)) (S.System.meaning cs.old) result (S.System.meaning cs.new) }
-        ensures adds { Adds (S.System.meaning cs.old) (S.System.stored cs.old) (S.System.meaning cs.new) (S.System.stored cs.new) }
+        ensures adds { Adds S.System.meaning S.System.stored S.System.knows cs.old cs.new }
     {
         match self {
             Boolean::Constant(b) => Ok(Boolean::Constant(!b)),
@@ -50,7 +50,7 @@ impl Boolean {
         cs: &mut S,
     ) -> Result<Boolean, GadgetFault>
         ensures does { Ran (run F.Field.modulus (folded_script gate F.Field.modulus constant self)) (S.System.meaning cs.old) result (S.System.meaning cs.new) }
-        ensures adds { Adds (S.System.meaning cs.old) (S.System.stored cs.old) (S.System.meaning cs.new) (S.System.stored cs.new) }
+        ensures adds { Adds S.System.meaning S.System.stored S.System.knows cs.old cs.new }
     {
         match (gate, constant) {
             (Gate::And, true) | (Gate::Or, false) | (Gate::Xor, false) => Ok(self),
@@ -67,7 +67,7 @@ impl Boolean {
         cs: &mut S,
     ) -> Result<Boolean, GadgetFault>
         ensures does { Ran (run F.Field.modulus (gated_script gate F.Field.modulus self other)) (S.System.meaning cs.old) result (S.System.meaning cs.new) }
-        ensures adds { Adds (S.System.meaning cs.old) (S.System.stored cs.old) (S.System.meaning cs.new) (S.System.stored cs.new) }
+        ensures adds { Adds S.System.meaning S.System.stored S.System.knows cs.old cs.new }
     {
         match (self, other) {
             (Boolean::Constant(a), _) => other.folded(gate, a, cs),

@@ -34,7 +34,7 @@ impl<F: Field, S: System<F>> AllocVar<bool, F, S> for Boolean {
         mode: AllocationMode,
     ) -> Result<Boolean, GadgetFault>
         ensures does { Ran (whole (run F.Field.modulus (alloc_script F.Field.modulus mode value))) (S.System.meaning cs.old) result (S.System.meaning cs.new) }
-        ensures adds { Adds (S.System.meaning cs.old) (S.System.stored cs.old) (S.System.meaning cs.new) (S.System.stored cs.new) }
+        ensures adds { Adds S.System.meaning S.System.stored S.System.knows cs.old cs.new }
         ensures leaves { Leaves result (S.System.stored cs.old) (S.System.stored cs.new) }
     {
         call(&BooleanCall::Allocate(mode, value), cs)
@@ -45,7 +45,7 @@ impl Boolean {
     /// One less the bit; a refusal leaves the system as it was.
     pub fn not<F: Field, S: System<F>>(self, cs: &mut S) -> Result<Boolean, GadgetFault>
         ensures does { Ran (whole (run F.Field.modulus (not_script F.Field.modulus self))) (S.System.meaning cs.old) result (S.System.meaning cs.new) }
-        ensures adds { Adds (S.System.meaning cs.old) (S.System.stored cs.old) (S.System.meaning cs.new) (S.System.stored cs.new) }
+        ensures adds { Adds S.System.meaning S.System.stored S.System.knows cs.old cs.new }
         ensures leaves { Leaves result (S.System.stored cs.old) (S.System.stored cs.new) }
     {
         call(&BooleanCall::Not(self), cs)
@@ -60,7 +60,7 @@ impl Boolean {
         cs: &mut S,
     ) -> Result<Boolean, GadgetFault>
         ensures does { Ran (whole (run F.Field.modulus (and_script F.Field.modulus self other))) (S.System.meaning cs.old) result (S.System.meaning cs.new) }
-        ensures adds { Adds (S.System.meaning cs.old) (S.System.stored cs.old) (S.System.meaning cs.new) (S.System.stored cs.new) }
+        ensures adds { Adds S.System.meaning S.System.stored S.System.knows cs.old cs.new }
         ensures leaves { Leaves result (S.System.stored cs.old) (S.System.stored cs.new) }
     {
         call(&BooleanCall::Gated(Gate::And, self, other), cs)
@@ -73,7 +73,7 @@ impl Boolean {
         cs: &mut S,
     ) -> Result<Boolean, GadgetFault>
         ensures does { Ran (whole (run F.Field.modulus (or_script F.Field.modulus self other))) (S.System.meaning cs.old) result (S.System.meaning cs.new) }
-        ensures adds { Adds (S.System.meaning cs.old) (S.System.stored cs.old) (S.System.meaning cs.new) (S.System.stored cs.new) }
+        ensures adds { Adds S.System.meaning S.System.stored S.System.knows cs.old cs.new }
         ensures leaves { Leaves result (S.System.stored cs.old) (S.System.stored cs.new) }
     {
         call(&BooleanCall::Gated(Gate::Or, self, other), cs)
@@ -86,7 +86,7 @@ impl Boolean {
         cs: &mut S,
     ) -> Result<Boolean, GadgetFault>
         ensures does { Ran (whole (run F.Field.modulus (xor_script F.Field.modulus self other))) (S.System.meaning cs.old) result (S.System.meaning cs.new) }
-        ensures adds { Adds (S.System.meaning cs.old) (S.System.stored cs.old) (S.System.meaning cs.new) (S.System.stored cs.new) }
+        ensures adds { Adds S.System.meaning S.System.stored S.System.knows cs.old cs.new }
         ensures leaves { Leaves result (S.System.stored cs.old) (S.System.stored cs.new) }
     {
         call(&BooleanCall::Gated(Gate::Xor, self, other), cs)

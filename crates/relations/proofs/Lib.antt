@@ -1,3 +1,4 @@
 pub mod Growth
 pub mod Undone
 pub mod Then
+pub mod Added

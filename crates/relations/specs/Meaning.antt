@@ -247,9 +247,14 @@ pub record Begins (m : Meaning) (s : Stored) (n : Meaning) (t : Stored) : Type 0
   pub shorter : Shorter m n
   pub words : cut m t ≡ s
 
--- a call that only adds, or refuses and changes nothing: words that were stored before it are stored after it
-abbrev pub Adds : Meaning → Stored → Meaning → Stored → Type 0
-Adds m s n t = (l : Meaning) (u : Stored) → Begins l u m s → Begins l u n t
+-- words that were stored before are stored after
+abbrev pub Extends : Meaning → Stored → Meaning → Stored → Type 0
+Extends m s n t = (l : Meaning) (u : Stored) → Begins l u m s → Begins l u n t
+
+-- a call that only adds, or refuses and changes nothing: the stored words are extended, and what a system knows of itself it still knows
+pub record Adds {S : Type 0} (meaning : S → Meaning) (stored : S → Stored) (knows : S → Type 0) (s t : S) : Type 0 where
+  pub words : Extends (meaning s) (stored s) (meaning t) (stored t)
+  pub knowing : knows s → knows t
 
 -- a refused call leaves the stored words as they are
 abbrev pub Leaves : {A E : Type 0} → Result A E → Stored → Stored → Type 0

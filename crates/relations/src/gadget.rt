@@ -16,7 +16,7 @@ pub trait Gadget<F: Field, S: System<F>> {
     /// The steps, as they come: a refusal leaves what was added before it.
     fn steps(&self, cs: &mut S) -> Result<Self::Out, GadgetFault>
         ensures does { Ran (run F.Field.modulus (model self.now)) (S.System.meaning cs.old) result (S.System.meaning cs.new) }
-        ensures adds { Adds (S.System.meaning cs.old) (S.System.stored cs.old) (S.System.meaning cs.new) (S.System.stored cs.new) };
+        ensures adds { Adds S.System.meaning S.System.stored S.System.knows cs.old cs.new };
 }
 
 /// One gadget's call: draws a mark, runs the steps, and keeps what they added, or rewinds where one was refused.
@@ -25,7 +25,7 @@ pub fn call<F: Field, S: System<F>, G: Gadget<F, S>>(
     cs: &mut S,
 ) -> Result<G::Out, GadgetFault>
     ensures does { Ran (whole (run F.Field.modulus (G.Gadget.model gadget.now))) (S.System.meaning cs.old) result (S.System.meaning cs.new) }
-    ensures adds { Adds (S.System.meaning cs.old) (S.System.stored cs.old) (S.System.meaning cs.new) (S.System.stored cs.new) }
+    ensures adds { Adds S.System.meaning S.System.stored S.System.knows cs.old cs.new }
     ensures leaves { Leaves result (S.System.stored cs.old) (S.System.stored cs.new) }
 {
     let mark = cs.mark();

@@ -5,7 +5,7 @@ use Rattle.relations.specs.Meaning.{Meaning}
 use Rattle.systems.specs.declared.store.Part.{Part}
 use Rattle.systems.specs.declared.store.Part.TheVariants.{A, B, C}
 use Rattle.systems.specs.Outline.{coefficients, row_sum}
-use Rattle.systems.specs.Unmet.{first_unmet}
+use Rattle.relations.specs.Unmet.{first_unmet}
 use Rattle.report.specs.Text.{Sums, Page, sum_text, row_text}
 
 -- a row's sums, written out

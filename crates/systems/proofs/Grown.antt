@@ -2,13 +2,13 @@
 use Rattle.std.proofs.Common.{◌≡◌, ℕ, ◌+◌, ◌-◌, ◌*◌, ◌<◌, ◌≤◌, length, get_or, take, Ok, Err, Result, sym, refl, ap, ◌∙◌, subst, arith}
 use Rattle.std.proofs.lemmas.List.{take-take}
 use Rattle.relations.specs.declared.fault.SystemFault.{SystemFault}
-use Rattle.relations.specs.Meaning.{Meaning, Stored, Step, Ran, places, rows_use, cut, Shorter, Adds, Leaves}
+use Rattle.relations.specs.Meaning.{Meaning, Stored, Step, Ran, places, rows_use, cut, Shorter, Extends, Leaves}
 use Rattle.words.specs.State.{State, Fit, view, words_of}
 use Rattle.words.proofs.Tables.{tabulate_same, tabulate_take}
 use Rattle.systems.proofs.Views.{inputs_long, witnesses_long, rows_long, places_are, use_is}
 
 -- a system that is no shorter, whose first words are the same, adds
-grown : (m n : Meaning) (s t : Stored) → Shorter m n → cut m t ≡ s → Adds m s n t
+grown : (m n : Meaning) (s t : Stored) → Shorter m n → cut m t ≡ s → Extends m s n t
 grown m n s t h e = λ l u b. record {
   shorter = record {
     inputs = omega (arith, b.shorter.inputs, h.inputs);
@@ -72,7 +72,7 @@ same_words s f = kept_words s s f f record { inputs = omega arith; witnesses = o
 pub record Done {A : Type 0} (step : Step (Result A SystemFault)) (s : State) (r : Result A SystemFault) (t : State) : Type 0 where
   pub fit : Fit t
   pub does : Ran step (view s) r (view t)
-  pub adds : Adds (view s) (words_of s) (view t) (words_of t)
+  pub adds : Extends (view s) (words_of s) (view t) (words_of t)
   pub leaves : Leaves r (words_of s) (words_of t)
 
 pub refuse : {A : Type 0} (step : Step (Result A SystemFault)) (s : State) (e : SystemFault) → Fit s → Ran step (view s) (Err e) (view s) → Done step s (Err e) s

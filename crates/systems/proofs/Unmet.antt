@@ -1,13 +1,13 @@
 -- Going through the rows to the first that is not met.
-use Rattle.std.proofs.Common.{◌≡◌, ℕ, zero, suc, ◌+◌, ◌*◌, ◌%◌, ◌<◌, ◌≤◌, Bool, true, false, cond, eqb, List, [], ◌∷◌, ◌++◌, get_or, drop, Some, None, sym, refl, ap, ◌∙◌, arith}
+use Rattle.std.proofs.Common.{◌≡◌, ℕ, zero, suc, ◌+◌, ◌*◌, ◌%◌, ◌<◌, ◌≤◌, Bool, true, false, cond, eqb, List, [], ◌∷◌, ◌++◌, get_or, drop, Some, None, sym, refl, ap, ◌∙◌, length, arith, lt-ltb, le-ltb}
 use Rattle.std.proofs.lemmas.List.{at_drop_more, at_drop_all, get_or-map}
-use Rattle.relations.specs.Sum.{Row}
+use Rattle.relations.specs.Sum.{Row, row_of}
 use Rattle.relations.specs.Meaning.{assigned}
 use Rattle.words.specs.Words.{tabulate, Triple, rows, row_at, meant}
 use Rattle.words.specs.State.{State, view}
 use Rattle.words.proofs.Tables.{tabulate_at}
 use Rattle.words.proofs.Areas.{rows_length}
-use Rattle.systems.specs.Unmet.{met, unmet_from, first_unmet}
+use Rattle.relations.specs.Unmet.{met, is_met, unmet_from, first_unmet}
 use Rattle.systems.proofs.Views.{rows_long}
 
 rows_table : (n : ℕ) (rs ws : List ℕ) → rows n rs ws ≡ tabulate n (λ i. row_at i rs ws)
@@ -45,3 +45,13 @@ met_is p a b c x y z e f g = λ i. eqb (all i % p) (g i)
 
     all : a * b + 0 ≡ x * y
     all = plain (a * b) ∙ (λ i. e i * f i)
+
+-- row i is there, and is met or not
+pub row_judged : (s : State) (p i : ℕ) (b : Bool) → s.modulus ≡ p → i < s.count → b ≡ met s.modulus (assigned (view s)) (meant s.modulus (row_at i s.row_words s.term_words)) → Some b ≡ is_met p i (view s)
+row_judged s p i b q h e =
+    let d = row_of 0 [] [] [] in
+    ap Some (e ∙ (λ k. met (q k) (assigned (view s)) (sym (row_is s i d h) k)))
+    ∙ (λ k. cond (sym (lt-ltb i (length (view s).rows) (omega (arith, h, rows_long s))) k) (Some (met p (assigned (view s)) (get_or (view s).rows i d))) None)
+
+pub row_missing : (s : State) (p i : ℕ) → s.count ≤ i → None ≡ is_met p i (view s)
+row_missing s p i h = λ k. cond (sym (le-ltb i (length (view s).rows) (omega (arith, h, rows_long s))) k) (Some (met p (assigned (view s)) (get_or (view s).rows i (row_of 0 [] [] [])))) None

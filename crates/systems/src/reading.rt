@@ -5,7 +5,7 @@ ghost use Rattle.relations.specs.Meaning.{has, has_all, has_row, assigned};
 ghost use Rattle.words.specs.Words.{pairs, plain, rows as stored_rows, row_at, meant, triples_in};
 ghost use Rattle.systems.specs.Read.{Naming, Reading, RowRead, RowsRead, CombinationsRead, Writing};
 ghost use Rattle.systems.specs.Held.{state, meant_by, at_side, Sized, Refused, CutAt, Barred};
-ghost use Rattle.systems.specs.Unmet.{met, first_unmet};
+ghost use Rattle.relations.specs.Unmet.{met, first_unmet};
 ghost use Rattle.systems.specs.Outline.{outline, width, working, row_sum, coefficients, outlining};
 
 use crate::rooms::{Counts, OutlineFault};
@@ -159,7 +159,7 @@ impl<'a, F: Field> Valued<'a, F> {
     }
 
     // Whether the kept values meet row i.
-    fn row_met(&self, i: usize) -> bool
+    pub(crate) fn row_met(&self, i: usize) -> bool
         requires { i < self.now.store.count }
         ensures { result ≡ met self.now.store.modulus (assigned (meant_by self.now)) (meant self.now.store.modulus (row_at i self.now.store.rows.now self.now.store.terms.now)) }
     {

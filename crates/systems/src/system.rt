@@ -14,9 +14,12 @@ impl<'a, F: Field> System<F> for Valued<'a, F> {
 
     ghost stored = { stored_by };
 
+    // It remembers nothing of its rows.
+    ghost knows = { λ s. Unit {0} };
+
     fn new_variable(&mut self, side: Side, value: Option<F>) -> Result<Variable, SystemFault>
         ensures does { Ran (new_variable side (option_map F.Field.number value)) (meant_by self.old) result (meant_by self.new) }
-        ensures adds { Adds (meant_by self.old) (stored_by self.old) (meant_by self.new) (stored_by self.new) }
+        ensures adds { Adds meant_by stored_by (λ s. Unit {0}) self.old self.new }
         ensures leaves { Leaves result (stored_by self.old) (stored_by self.new) }
     {
         let (n, room, full) = self.side(side);
@@ -87,6 +90,19 @@ impl<'a, F: Field> System<F> for Valued<'a, F> {
         match variable {
             Variable::One => Ok(Some(F::one())),
             _ => Ok(Some(F::from_number(self.word(variable)))),
+        }
+    }
+
+    fn row_count(&self) -> u32 {
+        self.store.count as u32
+    }
+
+    fn is_met(&self, row: u32) -> Option<bool> {
+        let i = row as usize;
+        if i < self.store.count {
+            Some(self.row_met(i))
+        } else {
+            None
         }
     }
 

@@ -37,7 +37,7 @@ fn resolve(command: Command, book: &Book) -> Action
 /// The gadget's call that a command asks for.
 fn perform<F: Field, S: System<F>>(cs: &mut S, action: Action) -> Result<Answer, GadgetFault>
     ensures does { Ran (whole (run F.Field.modulus (action_script F.Field.modulus action))) (S.System.meaning cs.old) result (S.System.meaning cs.new) }
-    ensures adds { Adds (S.System.meaning cs.old) (S.System.stored cs.old) (S.System.meaning cs.new) (S.System.stored cs.new) }
+    ensures adds { Adds S.System.meaning S.System.stored S.System.knows cs.old cs.new }
     ensures leaves { Leaves result (S.System.stored cs.old) (S.System.stored cs.new) }
 {
     match action {
@@ -53,7 +53,7 @@ pub fn execute<F: Field, S: System<F>>(
     command: Command,
 ) -> Result<(), TapeFault>
     ensures does { executed F.Field.modulus command (state_of S.System.meaning circuit.old) ≡ (result, state_of S.System.meaning circuit.new) }
-    ensures adds { Adds (S.System.meaning circuit.old.system) (S.System.stored circuit.old.system) (S.System.meaning circuit.new.system) (S.System.stored circuit.new.system) }
+    ensures adds { Adds S.System.meaning S.System.stored S.System.knows circuit.old.system circuit.new.system }
     ensures leaves { Leaves result (S.System.stored circuit.old.system) (S.System.stored circuit.new.system) }
     ensures unchanged { Unchanged result (state_of S.System.meaning circuit.old) (state_of S.System.meaning circuit.new) }
     ensures runs { (h : History) → Running F.Field.modulus h (state_of S.System.meaning circuit.old) → Stepped F.Field.modulus h command (state_of S.System.meaning circuit.old) (state_of S.System.meaning circuit.new) result }

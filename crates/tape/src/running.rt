@@ -20,7 +20,7 @@ fn next_command<F: Field, S: System<F>>(
     number: u32,
     refused: &mut Vec<Refused>,
 ) -> Result<Option<usize>, AllocError>
-    ensures adds { Adds (S.System.meaning circuit.old.system) (S.System.stored circuit.old.system) (S.System.meaning circuit.new.system) (S.System.stored circuit.new.system) }
+    ensures adds { Adds S.System.meaning S.System.stored S.System.knows circuit.old.system circuit.new.system }
     ensures does { Next F.Field.modulus rest.now number (state_of S.System.meaning circuit.old) (state_of S.System.meaning circuit.new) result refused.old.items refused.new.items }
 {
     refused.reserve(1)?;
@@ -43,7 +43,7 @@ pub fn run<F: Field, S: System<F>>(
     most: u32,
     refused: &mut Vec<Refused>,
 ) -> Result<u32, AllocError>
-    ensures adds { Adds (S.System.meaning circuit.old.system) (S.System.stored circuit.old.system) (S.System.meaning circuit.new.system) (S.System.stored circuit.new.system) }
+    ensures adds { Adds S.System.meaning S.System.stored S.System.knows circuit.old.system circuit.new.system }
     ensures runs { (g : History) → Running F.Field.modulus g (state_of S.System.meaning circuit.old) → Taped F.Field.modulus most tape.now g (state_of S.System.meaning circuit.old) (state_of S.System.meaning circuit.new) result refused.old.items refused.new.items }
     ensures fresh { Fresh (S.System.meaning circuit.old.system) → held_by circuit.old.book ≡ [] → Taped F.Field.modulus most tape.now [] (state_of S.System.meaning circuit.old) (state_of S.System.meaning circuit.new) result refused.old.items refused.new.items }
 {

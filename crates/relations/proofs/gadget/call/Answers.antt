@@ -9,7 +9,10 @@ returns-in-Ok g c =
     let n = g.S.System.meaning c.keep.new.self in
     record {
       does = ap (λ x. restored m x.0 x.1) c.in-Ok.ensures.does ∙ ap (λ x. (Ok c.in-Ok.answer, x)) (sym c.keep.ensures.does);
-      adds = λ l u h. same_begins _ _ l _ _ u c.keep.ensures.does c.keep.ensures.leaves (c.in-Ok.ensures.adds l u h);
+      adds = record {
+        words = λ l u h. same_begins _ _ l _ _ u c.keep.ensures.does c.keep.ensures.leaves (c.in-Ok.ensures.adds.words l u h);
+        knowing = λ h. c.keep.ensures.knowing (c.in-Ok.ensures.adds.knowing h);
+      };
       leaves = tt;
     }
 
@@ -25,13 +28,16 @@ returns-in_ok-rewind-in-Err g c =
     let k = c.mark-mark.result in
     let at : Marks m k.inputs k.witnesses k.combinations k.rows =
     record { inputs = start.inputs; witnesses = start.witnesses; combos = start.combinations; rows = start.rows } in
-    let begun = c.in-Err.ensures.adds m t (begins_refl m t start.words) in
+    let begun = c.in-Err.ensures.adds.words m t (begins_refl m t start.words) in
     let ran = c.in-Err.ensures.does in
     let re = c.in_ok-rewind-in-Err.ensures.does in
     let same = words_back p s m n o c.in-Err.fault (Ok tt) k.inputs k.witnesses k.combinations k.rows t (g.S.System.stored c.steps.new.cs) (g.S.System.stored c.rewind.new.self) start.sane at ran re begun c.in_ok-rewind-in-Err.ensures.cuts in
     record {
       does = undone p s m n o c.in-Err.fault (Ok tt) k.inputs k.witnesses k.combinations k.rows start.sane at ran re;
-      adds = λ l u h. same_begins m o l t (g.S.System.stored c.rewind.new.self) u (system_back p s m n o c.in-Err.fault (Ok tt) k.inputs k.witnesses k.combinations k.rows start.sane at ran re) same h;
+      adds = record {
+        words = λ l u h. same_begins m o l t (g.S.System.stored c.rewind.new.self) u (system_back p s m n o c.in-Err.fault (Ok tt) k.inputs k.witnesses k.combinations k.rows start.sane at ran re) same h;
+        knowing = λ h. c.in_ok-rewind-in-Err.ensures.knowing (c.in-Err.ensures.adds.knowing h);
+      };
       leaves = same;
     }
 

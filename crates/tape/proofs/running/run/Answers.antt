@@ -1,6 +1,7 @@
 use Rattle.std.proofs.Common.{◌≡◌, ℕ, ◌+◌, ◌<◌, ◌≤◌, [], length, drop, Some, None, Ok, vec_items, Result, sym, refl, ap, subst, arith, length-drop, rules}
 use Rattle.std.proofs.lemmas.Result.{err_from_is_err_and}
 use Rattle.std.specs.declared.alloc.AllocError.{AllocError}
+use Rattle.relations.proofs.Added.{adds_nothing, adds_both}
 use Rattle.readings.specs.Runs.{History, Running}
 use Rattle.readings.proofs.Step.{running_begins, promised}
 use Rattle.tape.specs.State.{state_of}
@@ -10,7 +11,7 @@ use Rattle.tape.proofs.Tapes.{left_is, known_next, begun, gone_on, unknown_end, 
 use Rattle.tape.proofs.running.run.Goals as goal
 
 pub loop-number-init : goal.loop-number-init
-loop-number-init g c = (0, refl, (λ l u h. h), λ h k. begun g.F.Field.modulus c.args.tape.now h _ _ k)
+loop-number-init g c = (0, refl, adds_nothing g.S.System.meaning g.S.System.stored g.S.System.knows c.args.circuit.now.system, λ h k. begun g.F.Field.modulus c.args.tape.now h _ _ k)
 
 pub returns-then-is_empty : goal.returns-then-is_empty
 returns-then-is_empty g c =
@@ -36,7 +37,7 @@ returns-in_err-length g c =
     let q = err_from_is_err_and c.from_residual.result c.from_residual.ensures.1 in
     let ends = λ (h : History) (k : Running p h s). subst (λ (r : Result ℕ AllocError). Taped {E = AllocError} p c.args.most c.args.tape.now h s t r (vec_items c.args.refused.now) (vec_items c.next_command.new.refused)) (sym q.1)
     (memory_end {E = AllocError} p c.args.most c.args.tape.now (promised p l.prime two) h s (state_of g.S.System.meaning c.loop-number.circuit) t v.0 c.loop-number.number q.0 (vec_items c.args.refused.now) (vec_items c.loop-number.refused) (vec_items c.next_command.new.refused) c.loop-number.auto.number-end n.does.0 n.does.1 (v.3 h k)) in
-    record { adds = λ m u b. n.adds m u (v.2 m u b); runs = ends; fresh = λ f e. ends [] (running_begins p l.prime two s f e) }
+    record { adds = adds_both v.2 n.adds; runs = ends; fresh = λ f e. ends [] (running_begins p l.prime two s f e) }
 
 pub returns-in_default : goal.returns-in_default
 returns-in_default g c =
@@ -53,7 +54,7 @@ returns-in_default g c =
     let step : Next {E = AllocError} p (drop v.0 c.args.tape.now) c.loop-number.number m t (Ok None) (vec_items c.loop-number.refused) (vec_items c.next_command.new.refused) =
     known_next AllocError p v.0 c.loop-number.number c.args.tape.now c.loop-number.rest.now m t c.in_ok-length.field-0 None (vec_items c.loop-number.refused) (vec_items c.next_command.new.refused) v.1 c.in_default.is n.does in
     let ends = λ (h : History) (k : Running p h s). unknown_end {E = AllocError} p c.args.most c.args.tape.now (promised p l.prime two) h s m t v.0 c.loop-number.number (vec_items c.args.refused.now) (vec_items c.loop-number.refused) (vec_items c.next_command.new.refused) c.loop-number-test.true before step (v.3 h k) in
-    record { adds = λ o u b. n.adds o u (v.2 o u b); runs = ends; fresh = λ f e. ends [] (running_begins p l.prime two s f e) }
+    record { adds = adds_both v.2 n.adds; runs = ends; fresh = λ f e. ends [] (running_begins p l.prime two s f e) }
 
 pub loop-number-preserved : goal.loop-number-preserved
 loop-number-preserved g c =
@@ -66,7 +67,7 @@ loop-number-preserved g c =
     known_next AllocError p v.0 c.loop-number.number c.args.tape.now c.loop-number.rest.now m t c.in_ok-length.field-0 (Some c.in-Some.length) (vec_items c.loop-number.refused) (vec_items c.next_command.new.refused) v.1 c.in-Some.is n.does in (
       v.0 + c.in-Some.length,
       left_is v.0 c.in-Some.length c.args.tape.now c.loop-number.rest.now v.1,
-      (λ o u b. n.adds o u (v.2 o u b)),
+      (adds_both v.2 n.adds),
       λ h r. gone_on AllocError p c.args.tape.now h (state_of g.S.System.meaning c.args.circuit.now) m t v.0 c.loop-number.number c.in-Some.length (vec_items c.args.refused.now) (vec_items c.loop-number.refused) (vec_items c.next_command.new.refused) step (v.3 h r),
     )
 

@@ -14,7 +14,7 @@ returns-then-self g c =
     let s = state c.args.self.now in
     let d : Done (enforce g.F.Field.modulus c.args.a.now c.args.b.now c.args.c.now) s (Err RowsFull) s =
     subst (λ (p : ℕ). Done (enforce p c.args.a.now c.args.b.now c.args.c.now) s (Err RowsFull) s) c.args.self.now.prime (row_full s c.args.a.now c.args.b.now c.args.c.now c.in_ok-sizes.sizes.a c.in_ok-sizes.sizes.b c.in_ok-sizes.sizes.c c.args.self.now.fit c.in_ok-sizes.ensures c.if-self.true) in
-    record { does = d.does; adds = d.adds; leaves = d.leaves }
+    record { does = d.does; adds = record { words = d.adds; knowing = λ h. h }; leaves = d.leaves }
 
 pub add_row-requires : goal.add_row-requires
 add_row-requires g c =
@@ -48,4 +48,4 @@ returns g c =
     let d : Done (enforce g.F.Field.modulus c.args.a.now c.args.b.now c.args.c.now) s (Ok tt) (beside c.add_row.new.self c.args.self.now.values.now) =
     moved (λ p. enforce p c.args.a.now c.args.b.now c.args.c.now) g.F.Field.modulus s (beside c.add_row.new.self c.args.self.now.values.now) (with_row s low c.add_row.new.self.rows.now c.add_row.new.self.terms.now) (Ok tt) c.args.self.now.prime (x.rest c.args.self.now.values.now)
     (row_new s c.args.a.now c.args.b.now c.args.c.now c.in_ok-sizes.sizes.a c.in_ok-sizes.sizes.b c.in_ok-sizes.sizes.c low c.add_row.new.self.rows.now c.add_row.new.self.terms.now c.args.self.now.fit z c.if-self.false sum x.rows_long x.terms_long x.written) in
-    record { does = d.does; adds = d.adds; leaves = d.leaves }
+    record { does = d.does; adds = record { words = d.adds; knowing = λ h. h }; leaves = d.leaves }

@@ -16,14 +16,14 @@ returns-then-not-has_all g c =
     let s = state c.args.self.now in
     let d : Done (new_lc g.F.Field.modulus c.args.terms.now) s (Err UnknownVariable) s =
     subst (λ (p : ℕ). Done (new_lc p c.args.terms.now) s (Err UnknownVariable) s) c.args.self.now.prime (lc_unknown s c.args.terms.now c.args.self.now.fit c.if-not-has_all.ensures) in
-    record { does = d.does; adds = d.adds; leaves = d.leaves }
+    record { does = d.does; adds = record { words = d.adds; knowing = λ h. h }; leaves = d.leaves }
 
 pub returns-then-n-self : goal.returns-then-n-self
 returns-then-n-self g c =
     let s = state c.args.self.now in
     let d : Done (new_lc g.F.Field.modulus c.args.terms.now) s (Err TermsFull) s =
     subst (λ (p : ℕ). Done (new_lc p c.args.terms.now) s (Err TermsFull) s) c.args.self.now.prime (lc_full s c.args.terms.now c.len-n.result c.args.self.now.fit c.if-not-has_all.ensures c.len-n.ensures c.if-n-self.true) in
-    record { does = d.does; adds = d.adds; leaves = d.leaves }
+    record { does = d.does; adds = record { words = d.adds; knowing = λ h. h }; leaves = d.leaves }
 
 pub add_combination-requires : goal.add_combination-requires
 add_combination-requires g c =
@@ -54,4 +54,4 @@ returns g c =
     let d : Done (new_lc g.F.Field.modulus c.args.terms.now) s (Ok (Combination (s.front + n))) (beside c.add_combination.new.self c.args.self.now.values.now) =
     moved (λ p. new_lc p c.args.terms.now) g.F.Field.modulus s (beside c.add_combination.new.self c.args.self.now.values.now) (with_lc s n c.add_combination.new.self.terms.now) (Ok (Combination (s.front + n))) c.args.self.now.prime (x.rest c.args.self.now.values.now)
     (lc_new s c.args.terms.now n c.worth-kept.result c.add_combination.new.self.terms.now c.args.self.now.fit c.if-not-has_all.ensures c.len-n.ensures c.if-n-self.false c.worth-kept.ensures.is c.worth-kept.ensures.below x.long x.written) in
-    record { does = d.does; adds = d.adds; leaves = d.leaves }
+    record { does = d.does; adds = record { words = d.adds; knowing = λ h. h }; leaves = d.leaves }

@@ -33,11 +33,11 @@ returns-in-Input g c =
     let s = state c.args.self.now in
     let below : c.to_number-number.result < s.modulus = omega (arith, g.F.Field.laws.below c.in-Some.x, c.to_number-number.ensures, c.args.self.now.prime) in
     let d = input_added s c.args.side c.side-n.result _ c.to_number-number.result c.args.self.now.fit c.side-n.ensures c.in-Input.is c.if-n-room.false (ap (option_map g.F.Field.number) c.in-Some.is ∙ ap Some (sym c.to_number-number.ensures)) below in
-    record { does = d.does; adds = d.adds; leaves = d.leaves }
+    record { does = d.does; adds = record { words = d.adds; knowing = λ h. h }; leaves = d.leaves }
 
 pub returns-in-Witness : goal.returns-in-Witness
 returns-in-Witness g c =
     let s = state c.args.self.now in
     let below : c.to_number-number.result < s.modulus = omega (arith, g.F.Field.laws.below c.in-Some.x, c.to_number-number.ensures, c.args.self.now.prime) in
     let d = witness_added s c.args.side c.side-n.result _ c.to_number-number.result c.args.self.now.fit c.side-n.ensures c.in-Witness.is c.if-n-room.false (ap (option_map g.F.Field.number) c.in-Some.is ∙ ap Some (sym c.to_number-number.ensures)) below in
-    record { does = d.does; adds = d.adds; leaves = d.leaves }
+    record { does = d.does; adds = record { words = d.adds; knowing = λ h. h }; leaves = d.leaves }

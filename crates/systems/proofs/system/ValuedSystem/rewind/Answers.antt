@@ -10,4 +10,4 @@ invariant_of-self g c =
 pub returns : goal.returns
 returns g c =
     let d = done (state c.args.self.now) c.args.mark.inputs c.args.mark.witnesses c.args.mark.combinations c.args.mark.rows c.in_ok-front.field-0.front c.in_ok-front.field-0.back c.args.self.now.fit c.in_ok-front.ensures in
-    record { does = d.does; cuts = d.cuts }
+    record { does = d.does; cuts = d.cuts; knowing = λ h. h }

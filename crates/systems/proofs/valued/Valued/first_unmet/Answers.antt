@@ -1,6 +1,6 @@
 use Rattle.std.proofs.Common.{ℕ, ap, ◌∙◌}
 use Rattle.systems.specs.Held.{state, meant_by}
-use Rattle.systems.specs.Unmet.{first_unmet}
+use Rattle.relations.specs.Unmet.{first_unmet}
 use Rattle.systems.proofs.Unmet.{on, stop, end}
 use Rattle.systems.proofs.valued.Valued.first_unmet.Goals as goal
 

@@ -1,7 +1,7 @@
 use Rattle.std.proofs.Common.{◌≡◌, drop}
 use Rattle.relations.specs.Meaning.{assigned}
 use Rattle.systems.specs.Held.{meant_by}
-use Rattle.systems.specs.Unmet.{unmet_from, first_unmet}
+use Rattle.relations.specs.Unmet.{unmet_from, first_unmet}
 use Rattle.systems.proofs.valued.Valued.first_unmet.Given as goal
 
 abbrev pub invariant-loop-i : goal.invariant-loop-i
