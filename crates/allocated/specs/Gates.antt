@@ -1,10 +1,11 @@
 -- Bits that are variables, and what a gate on two of them asks of a system.
-use Rattle.std.specs.Prelude.{ℕ, ◌-◌, Bool, true, false, not, ◌&&◌, List, [], ◌∷◌, Some, None, Option, ◌==◌}
+use Rattle.std.specs.Prelude.{ℕ, ◌-◌, Bool, true, false, not, cond, ◌&&◌, List, [], ◌∷◌, Some, None, Option, ◌==◌}
 use Rattle.relations.specs.declared.term.Variable.{Variable}
+use Rattle.relations.specs.declared.term.Term.{Term}
 use Rattle.relations.specs.declared.term.Side.{Side}
 use Rattle.relations.specs.declared.term.Side.TheVariants.{Witness as witness}
 use Rattle.relations.specs.Script.{Script, answer, allocate, combine, row}
-use Rattle.relations.specs.Terms.{times, just, one_less}
+use Rattle.relations.specs.Terms.{times, just, less, one_less}
 use Rattle.allocated.specs.declared.gate.Gate.{Gate}
 use Rattle.allocated.specs.declared.gate.Gate.TheVariants.{And, Or, Xor}
 use Rattle.allocated.specs.declared.allocated.LooseBit.{LooseBit}
@@ -96,3 +97,24 @@ gate_script g p a b = output g a.variable b.variable (gate_row g p a.variable b.
 -- one less a bit
 abbrev pub not_allocated : ℕ → AllocatedBool → Script AllocatedBool
 not_allocated p a = combine (one_less p a.variable) (λ v. answer (allocated v))
+
+-- the rows d * m = w and d * (1 - w) = 0: w is 0 where d is, and 1 where it is not
+abbrev pub difference_rows : ℕ → List Term → Variable → Variable → Script AllocatedBool
+difference_rows p d m w = row d (just m) (just w) (combine (one_less p w) (λ t. row d (just t) [] (answer (allocated w))))
+
+-- the value of a choice by c: that of a where c is not zero, else that of b
+abbrev pub chosen : Option ℕ → Option ℕ → Option ℕ → Option ℕ
+chosen (Some c) (Some a) (Some b) = Some (cond (truth c) a b)
+chosen (Some c) (Some a) None = None
+chosen (Some c) None y = None
+chosen None x y = None
+
+abbrev pub of_three : (Option ℕ → Option ℕ → Option ℕ → Option ℕ) → List (Option ℕ) → Option ℕ
+of_three f [] = None
+of_three f (x ∷ []) = None
+of_three f (x ∷ y ∷ []) = None
+of_three f (x ∷ y ∷ z ∷ os) = f x y z
+
+-- a choice between two variables: a witness w with the row c * (a - b) = w - b
+abbrev pub choice_script : ℕ → AllocatedBool → AllocatedBool → AllocatedBool → Script AllocatedBool
+choice_script p c a b = allocate witness (c.variable ∷ a.variable ∷ b.variable ∷ []) (of_three chosen) (λ w. row (just c.variable) (less p a.variable b.variable) (less p w b.variable) (answer (allocated w)))

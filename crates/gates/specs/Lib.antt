@@ -1,0 +1,2 @@
+pub mod Kary
+pub mod Walk
