@@ -69,9 +69,6 @@ set_more n x b vs l = sym (tabulate_more n (λ j. Some (get_or (set vs (b + n) x
     ∙ (λ i. tabulate_same n (λ j. Some (get_or (set vs (b + n) x) (b + j) 0)) (λ j. Some (get_or vs (b + j) 0)) (λ j h. ap Some (get_or-set_other vs (b + n) (b + j) x 0 (λ e. omega arith))) i
     ++ (Some (get_or-set_same vs (b + n) x 0 l i) ∷ [])))
 
-zero_plus : (n : ℕ) → 0 + n ≡ n
-zero_plus n = omega arith
-
 input_more : (n x : ℕ) (vs : List ℕ) → n < length vs → tabulate n (λ j. Some (get_or vs j 0)) ++ (Some x ∷ []) ≡ tabulate (n + 1) (λ j. Some (get_or (set vs n x) j 0))
 input_more n x vs l = sym (tabulate_more n (λ j. Some (get_or (set vs n x) j 0))
     ∙ (λ i. tabulate_same n (λ j. Some (get_or (set vs n x) j 0)) (λ j. Some (get_or vs j 0)) (λ j h. ap Some (get_or-set_other vs n j x 0 (λ e. omega arith))) i

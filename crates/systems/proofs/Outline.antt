@@ -13,7 +13,6 @@ use Rattle.words.proofs.Tables.{tabulate_same, tabulate_length}
 use Rattle.written.specs.declared.Counts.{Counts}
 use Rattle.written.specs.declared.writer.Writer.{Writer}
 use Rattle.written.specs.Cells.{cells, Lies, Over, written_out}
-use Rattle.written.proofs.Rows.{readable}
 use Rattle.systems.specs.declared.rooms.OutlineFault.{OutlineFault}
 use Rattle.systems.specs.declared.rooms.OutlineFault.TheVariants.{NoSuchRow, TooShort}
 use Rattle.systems.specs.declared.store.Part.{Part}
@@ -28,6 +27,10 @@ part_lies : (s : State) (part : Part) (i : ℕ) → Fit s → i < s.count → ge
 part_lies s A i f h = (lies s.term_room i s.count s.row_words h f.stack).a
 part_lies s B i f h = (lies s.term_room i s.count s.row_words h f.stack).b
 part_lies s C i f h = (lies s.term_room i s.count s.row_words h f.stack).c
+
+-- terms in their room lie in the words
+lies_in : (s : State) (start len : ℕ) → Fit s → start + len ≤ s.term_room → Lies start len s.term_words
+lies_in s start len f h = record { long = omega (arith, f.terms_long); limit = omega (arith, f.term_limit) }
 
 -- what comes out is the part's sum, written out
 pub part_written : (s : State) (part : Part) (i : ℕ) → i < s.count → written_out s.modulus (outline s) (get_or s.row_words (place part i) 0) (get_or s.row_words (place part i + 1) 0) s.term_words ≡ written s.modulus (view s) (row_sum part i (view s))
@@ -116,7 +119,7 @@ pub part_lies_read : (s : State) (part : Part) (i at : ℕ) (ws : List ℕ) → 
 part_lies_read s part i at ws ea e f h =
     subst (λ (vs : List ℕ). Lies (get_or s.row_words at 0) (get_or s.row_words (at + 1) 0) vs) (sym e)
     (subst (λ (x : ℕ). Lies (get_or s.row_words x 0) (get_or s.row_words (x + 1) 0) s.term_words) (sym ea)
-    (readable s (get_or s.row_words (place part i) 0) (get_or s.row_words (place part i + 1) 0) f (part_lies s part i f h)).terms)
+    (lies_in s (get_or s.row_words (place part i) 0) (get_or s.row_words (place part i + 1) 0) f (part_lies s part i f h)))
 
 pub outlined_read : (s : State) (part : Part) (i at : ℕ) (w : Writer) (os qs : List ℕ) → at ≡ place part i → Writing s w → i < s.count → length qs ≡ length os → cells w.counts ≤ length os →
     Over w.counts (written_out w.modulus w.counts (get_or s.row_words at 0) (get_or s.row_words (at + 1) 0) w.terms.now) os qs → Outlined s part i os qs

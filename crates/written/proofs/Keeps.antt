@@ -2,6 +2,7 @@
 use Rattle.std.proofs.Common.{◌≡◌, ℕ, zero, suc, ◌+◌, ◌-◌, ◌*◌, ◌/◌, ◌%◌, ◌<◌, ◌≤◌, Bool, true, false, cond, eqb, ltb, List, [], ◌∷◌, length, get_or, Some, None, Option, sym, refl, ap, ◌∙◌, mul_assoc, add-mul, mul-zero, arith, ltb-false, ltb-true, eq-eqb, ne_eqb}
 use native.Mathlib.Nat.{mod-mod, zero-mod}
 use Rattle.std.proofs.lemmas.Bool.{cond-true, cond-false, eqb-true, eqb-false}
+use Rattle.arith.proofs.Euclid.{mul_mod_l}
 use Rattle.relations.specs.declared.term.Variable.{Variable}
 use Rattle.relations.specs.declared.term.Variable.TheVariants.{One, Input, Witness, Combination}
 use Rattle.relations.specs.Sum.{Pairs, code, decode, code_in, total, value}
@@ -9,14 +10,14 @@ use Rattle.relations.specs.Meaning.{Combo, places}
 use Rattle.relations.specs.Written.{expanded}
 use Rattle.words.specs.Words.{pairs, heading, Chain}
 use Rattle.words.proofs.Frames.{length_pairs}
-use Rattle.words.proofs.Values.{sum_to}
+use Rattle.words.proofs.Values.{sum_to, right, sum_same, sum_update, total_here, total_there}
 use Rattle.written.specs.declared.Counts.{Counts}
 use Rattle.written.specs.Cells.{cells, variable_at, cell, written_out, Over}
 use Rattle.written.specs.Keeps.{up_to, Named, Earlier, Given, Gives, Keeps}
 use Rattle.written.proofs.Cells.{Found, found, cell_code, at_combination}
 use Rattle.written.proofs.Adding.{times_rem}
 use Rattle.written.proofs.Going.{older, older_more, older_places}
-use Rattle.written.proofs.Sums.{mul_mod_l, right, sum_same, sum_mod, sum_plus, sum_zeros, sum_update, total_here, total_there}
+use Rattle.written.proofs.Sums.{sum_mod, sum_plus, sum_zeros}
 
 -- the coefficients f, each times what ρ gives its variable, summed over the cells
 abbrev pub weighed : Counts → (Variable → ℕ) → (Variable → ℕ) → ℕ
