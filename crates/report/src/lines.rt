@@ -44,7 +44,7 @@ impl Display for Verdict {
 }
 
 /// Appends a line for each refusal, in their order: `refused 4 2 1` for the command 4, refused with the number 2 by the layer 1.
-pub fn push_refusals(text: &mut String, refusals: &[Refused]) -> Result<(), AllocError>
+pub(crate) fn push_refusals(text: &mut String, refusals: &[Refused]) -> Result<(), AllocError>
     ensures { OnOk result (string_bytes text.new ≡ string_bytes text.old ++ refusals_text refusals.now) }
 {
     push_shown(text, Refusals(refusals))
@@ -52,7 +52,7 @@ pub fn push_refusals(text: &mut String, refusals: &[Refused]) -> Result<(), Allo
 
 // No type of its own: the three counts are shown in this one line, and `format_args!` is a `Display` already.
 /// Appends the line `inputs 0 witnesses 3 rows 3`.
-pub fn push_counts(
+pub(crate) fn push_counts(
     text: &mut String,
     inputs: usize,
     witnesses: usize,
@@ -67,7 +67,7 @@ pub fn push_counts(
 }
 
 /// Appends the last line: `met`, or `unmet` with the number of the first row that is not met.
-pub fn push_verdict(text: &mut String, first_unmet: Option<u32>) -> Result<(), AllocError>
+pub(crate) fn push_verdict(text: &mut String, first_unmet: Option<u32>) -> Result<(), AllocError>
     ensures { OnOk result (string_bytes text.new ≡ string_bytes text.old ++ verdict_text first_unmet) }
 {
     push_shown(text, Verdict(first_unmet))

@@ -1,4 +1,5 @@
-use crate::{push_refusals, push_sum, push_verdict};
+use crate::lines::{push_refusals, push_verdict};
+use crate::sums::push_sum;
 use command::Refused;
 use relations::Refusal;
 use std::test::Fail;
