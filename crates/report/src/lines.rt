@@ -5,6 +5,7 @@ use command::Refused;
 use std::alloc::AllocError;
 use std::fmt;
 use std::fmt::Display;
+use systems::Verdict;
 
 /// Appends what a value shows as `{}`. Where it fails, memory was wanting, and how much of the value was written is not said.
 pub(crate) fn push_shown<D: Display + Drop>(text: &mut String, value: D) -> Result<(), AllocError>
@@ -30,15 +31,15 @@ impl Display for Refusals<'_> {
 
 /// The last line: `met`, or `unmet` with the number of the first row that is not met.
 #[derive(Clone, Copy)]
-struct Verdict(Option<u32>);
+struct LastLine(Verdict);
 
-impl Display for Verdict {
-    ghost output = { λ verdict. Some (verdict_text verdict.0) };
+impl Display for LastLine {
+    ghost output = { λ line. Some (verdict_text line.0) };
 
     fn fmt<W: fmt::Write>(&self, f: &mut fmt::Formatter<W>) -> fmt::Result {
         match self.0 {
-            None => writeln!(f, "met"),
-            Some(row) => writeln!(f, "unmet {row}"),
+            Verdict::Met => writeln!(f, "met"),
+            Verdict::Unmet(row) => writeln!(f, "unmet {row}"),
         }
     }
 }
@@ -67,8 +68,8 @@ pub(crate) fn push_counts(
 }
 
 /// Appends the last line: `met`, or `unmet` with the number of the first row that is not met.
-pub(crate) fn push_verdict(text: &mut String, first_unmet: Option<u32>) -> Result<(), AllocError>
-    ensures { OnOk result (string_bytes text.new ≡ string_bytes text.old ++ verdict_text first_unmet) }
+pub(crate) fn push_verdict(text: &mut String, verdict: Verdict) -> Result<(), AllocError>
+    ensures { OnOk result (string_bytes text.new ≡ string_bytes text.old ++ verdict_text verdict) }
 {
-    push_shown(text, Verdict(first_unmet))
+    push_shown(text, LastLine(verdict))
 }

@@ -3,6 +3,6 @@ pub mod Grown
 pub mod Calls
 pub mod Variables
 pub mod Rewinds
-pub mod Unmet
+pub mod Verdicts
 pub mod Outline
 pub mod Readers

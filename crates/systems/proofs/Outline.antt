@@ -20,7 +20,7 @@ use Rattle.systems.specs.declared.store.Part.TheVariants.{A, B, C}
 use Rattle.systems.proofs.Views.{rows_long}
 use Rattle.systems.specs.Read.{Writing}
 use Rattle.systems.specs.Outline.{place, outline, working, width, placed, coefficients, row_sum, outlining}
-use Rattle.systems.proofs.Unmet.{row_is}
+use Rattle.systems.proofs.Verdicts.{row_is}
 
 -- the words of a part lie in their room
 part_lies : (s : State) (part : Part) (i : ℕ) → Fit s → i < s.count → get_or s.row_words (place part i) 0 + get_or s.row_words (place part i + 1) 0 ≤ s.term_room

@@ -3,5 +3,5 @@ pub mod Stores
 pub mod Held
 pub mod Opening
 pub mod Outline
-pub mod Unmet
+pub mod Verdict
 pub mod Read

@@ -5,7 +5,7 @@ ghost use Rattle.relations.specs.Meaning.{has, has_all, has_row, assigned};
 ghost use Rattle.words.specs.Words.{pairs, plain, rows as stored_rows, row_at, meant, triples_in};
 ghost use Rattle.systems.specs.Read.{Naming, Reading, RowRead, RowsRead, CombinationsRead, Writing};
 ghost use Rattle.systems.specs.Held.{state, meant_by, at_side, Sized, Refused, CutAt, Barred};
-ghost use Rattle.systems.specs.Unmet.{met, first_unmet};
+ghost use Rattle.systems.specs.Verdict.{met, verdict};
 ghost use Rattle.systems.specs.Outline.{outline, width, working, row_sum, coefficients, outlining};
 
 use crate::rooms::{Counts, OutlineFault};
@@ -17,6 +17,13 @@ use words::merge::{HandedRow, Sizes};
 use words::read::{Names, Reader, code_of, multiply_add};
 use words::scan::{Bounds, Combinations, Row, Rows, floor_of};
 use written::writer::Writer;
+
+/// What the kept values make of the rows: they meet them all, or the first that they do not meet has this number.
+#[derive(Clone, Copy)]
+pub enum Verdict {
+    Met,
+    Unmet(u32),
+}
 
 /// Where the combinations end and the terms of rows begin.
 pub(crate) struct Ends {
@@ -169,16 +176,16 @@ impl<'a, F: Field> Valued<'a, F> {
         multiply_add(p, a, b, 0) == reader.worth_stored(p, row.c)
     }
 
-    /// The number of the first row that the kept values do not meet.
-    pub fn first_unmet(&self) -> Option<u32>
-        ensures { result ≡ first_unmet F.Field.modulus (meant_by self.now) }
+    /// Whether the kept values meet all rows, or else the first that they do not meet.
+    pub fn verdict(&self) -> Verdict
+        ensures { result ≡ verdict F.Field.modulus (meant_by self.now) }
     {
         for i in 0..self.store.count {
             if !self.row_met(i) {
-                return Some(i as u32);
+                return Verdict::Unmet(i as u32);
             }
         }
-        None
+        Verdict::Met
     }
 
     // The terms, whose sums are written out.

@@ -1,0 +1,48 @@
+-- Going through the rows to the first that is not met.
+use Rattle.std.proofs.Common.{◌≡◌, ℕ, zero, suc, ◌+◌, ◌*◌, ◌%◌, ◌<◌, ◌≤◌, Bool, true, false, cond, eqb, List, [], ◌∷◌, ◌++◌, get_or, drop, sym, refl, ap, ◌∙◌, arith}
+use Rattle.std.proofs.lemmas.List.{at_drop_more, at_drop_all, get_or-map}
+use Rattle.relations.specs.Sum.{Row}
+use Rattle.relations.specs.Meaning.{assigned}
+use Rattle.words.specs.Words.{tabulate, Triple, rows, row_at, meant}
+use Rattle.words.specs.State.{State, view}
+use Rattle.words.proofs.Tables.{tabulate_at}
+use Rattle.words.proofs.Areas.{rows_length}
+use Rattle.systems.specs.declared.reading.Verdict.TheVariants.{Met, Unmet}
+use Rattle.systems.specs.Verdict.{met, verdict_from, verdict}
+use Rattle.systems.proofs.Views.{rows_long}
+
+rows_table : (n : ℕ) (rs ws : List ℕ) → rows n rs ws ≡ tabulate n (λ i. row_at i rs ws)
+rows_table zero rs ws = refl
+rows_table (suc n) rs ws = ap (λ (xs : List Triple). xs ++ (row_at n rs ws ∷ [])) (rows_table n rs ws)
+
+pub row_is : (s : State) (i : ℕ) (r : Row) → i < s.count → get_or (view s).rows i r ≡ meant s.modulus (row_at i s.row_words s.term_words)
+row_is s i r h =
+    let d = row_at i s.row_words s.term_words in
+    get_or-map (meant s.modulus) (rows s.count s.row_words s.term_words) i d r (omega (arith, rows_length s.count s.row_words s.term_words))
+    ∙ ap (meant s.modulus) (ap (λ (xs : List Triple). get_or xs i d) (rows_table s.count s.row_words s.term_words) ∙ tabulate_at s.count i (λ j. row_at j s.row_words s.term_words) d h)
+
+-- at row i: the rows from i on
+from_here : (s : State) (i : ℕ) (b : Bool) → i < s.count → b ≡ met s.modulus (assigned (view s)) (meant s.modulus (row_at i s.row_words s.term_words)) →
+    verdict_from s.modulus (assigned (view s)) i (drop i (view s).rows) ≡ cond b (verdict_from s.modulus (assigned (view s)) (i + 1) (drop (i + 1) (view s).rows)) (Unmet i)
+from_here s i b h e =
+    at_drop_more (λ (xs : List Row). verdict_from s.modulus (assigned (view s)) i xs) (view s).rows i (meant s.modulus (row_at i s.row_words s.term_words)) (omega (arith, rows_long s))
+    ∙ ap (λ (x : Row). cond (met s.modulus (assigned (view s)) x) (verdict_from s.modulus (assigned (view s)) (i + 1) (drop (i + 1) (view s).rows)) (Unmet i)) (row_is s i (meant s.modulus (row_at i s.row_words s.term_words)) h)
+    ∙ ap (λ (x : Bool). cond x (verdict_from s.modulus (assigned (view s)) (i + 1) (drop (i + 1) (view s).rows)) (Unmet i)) (sym e)
+
+pub on : (s : State) (i : ℕ) → i < s.count → true ≡ met s.modulus (assigned (view s)) (meant s.modulus (row_at i s.row_words s.term_words)) → verdict_from s.modulus (assigned (view s)) i (drop i (view s).rows) ≡ verdict s.modulus (view s) → verdict_from s.modulus (assigned (view s)) (i + 1) (drop (i + 1) (view s).rows) ≡ verdict s.modulus (view s)
+on s i h e inv = sym (from_here s i true h e) ∙ inv
+
+pub stop : (s : State) (i : ℕ) → i < s.count → false ≡ met s.modulus (assigned (view s)) (meant s.modulus (row_at i s.row_words s.term_words)) → verdict_from s.modulus (assigned (view s)) i (drop i (view s).rows) ≡ verdict s.modulus (view s) → Unmet i ≡ verdict s.modulus (view s)
+stop s i h e inv = sym (from_here s i false h e) ∙ inv
+
+pub end : (s : State) (i : ℕ) → s.count ≤ i → verdict_from s.modulus (assigned (view s)) i (drop i (view s).rows) ≡ verdict s.modulus (view s) → Met ≡ verdict s.modulus (view s)
+end s i h inv = sym (at_drop_all (λ (xs : List Row). verdict_from s.modulus (assigned (view s)) i xs) (view s).rows i (omega (arith, rows_long s))) ∙ inv
+
+pub met_is : (p a b c x y z : ℕ) → a ≡ x → b ≡ y → c ≡ z → eqb ((a * b + 0) % p) c ≡ eqb ((x * y) % p) z
+met_is p a b c x y z e f g = λ i. eqb (all i % p) (g i)
+  where
+    plain : (n : ℕ) → n + 0 ≡ n
+    plain n = omega arith
+
+    all : a * b + 0 ≡ x * y
+    all = plain (a * b) ∙ (λ i. e i * f i)
