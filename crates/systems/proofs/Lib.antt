@@ -4,5 +4,7 @@ pub mod Calls
 pub mod Variables
 pub mod Rewinds
 pub mod Verdicts
+pub mod Order
+pub mod Worth
 pub mod Outline
 pub mod Readers

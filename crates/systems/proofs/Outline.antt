@@ -19,7 +19,8 @@ use Rattle.systems.specs.declared.store.Part.{Part}
 use Rattle.systems.specs.declared.store.Part.TheVariants.{A, B, C}
 use Rattle.systems.proofs.Views.{rows_long}
 use Rattle.systems.specs.Read.{Writing}
-use Rattle.systems.specs.Outline.{place, outline, working, width, placed, coefficients, row_sum, outlining}
+use Rattle.systems.specs.Order.{outline}
+use Rattle.systems.specs.Outline.{place, working, width, placed, coefficients, row_sum, outlining}
 use Rattle.systems.proofs.Verdicts.{row_is}
 
 -- the words of a part lie in their room

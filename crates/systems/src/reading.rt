@@ -6,7 +6,8 @@ ghost use Rattle.words.specs.Words.{pairs, plain, rows as stored_rows, row_at, m
 ghost use Rattle.systems.specs.Read.{Naming, Reading, RowRead, RowsRead, CombinationsRead, Writing};
 ghost use Rattle.systems.specs.Held.{state, meant_by, at_side, Sized, Refused, CutAt, Barred};
 ghost use Rattle.systems.specs.Verdict.{met, verdict};
-ghost use Rattle.systems.specs.Outline.{outline, width, working, row_sum, coefficients, outlining};
+ghost use Rattle.systems.specs.Order.{outline};
+ghost use Rattle.systems.specs.Outline.{width, working, row_sum, coefficients, outlining};
 
 use crate::rooms::{Counts, OutlineFault};
 use crate::store::{Part, place, takes};

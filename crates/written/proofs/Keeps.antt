@@ -33,13 +33,13 @@ has_cell n c = go (eqb (c % 8) 1) (eqb (c % 8) 2) (eqb (c % 8) 3)
     go false false true h r = (1 + n.inputs + n.witnesses + c / 8, cond-true _ _ _ h)
     go false false false h r = (0, cond-true _ _ _ (eq-eqb c 0 (sym r)))
 
-decode_input : (k : ℕ) → decode (8 * k + 1) ≡ Input k
+pub decode_input : (k : ℕ) → decode (8 * k + 1) ≡ Input k
 decode_input k = cond-true _ _ _ (eq-eqb ((8 * k + 1) % 8) 1 (omega arith)) ∙ ap Input same
   where
     same : (8 * k + 1) / 8 ≡ k
     same = omega arith
 
-decode_witness : (k : ℕ) → decode (8 * k + 2) ≡ Witness k
+pub decode_witness : (k : ℕ) → decode (8 * k + 2) ≡ Witness k
 decode_witness k =
     cond-false _ _ _ (ne_eqb ((8 * k + 2) % 8) 1 (λ z. omega arith))
     ∙ cond-true _ _ _ (eq-eqb ((8 * k + 2) % 8) 2 (omega arith))
@@ -48,7 +48,7 @@ decode_witness k =
     same : (8 * k + 2) / 8 ≡ k
     same = omega arith
 
-decode_combination : (k : ℕ) → decode (8 * k + 3) ≡ Combination k
+pub decode_combination : (k : ℕ) → decode (8 * k + 3) ≡ Combination k
 decode_combination k =
     cond-false _ _ _ (ne_eqb ((8 * k + 3) % 8) 1 (λ z. omega arith))
     ∙ cond-false _ _ _ (ne_eqb ((8 * k + 3) % 8) 2 (λ z. omega arith))
