@@ -3,7 +3,6 @@ use Rattle.std.proofs.Common.{◌≡◌, ℕ, zero, suc, ◌+◌, ◌-◌, ◌*�
 use native.Mathlib.Nat.{mod-mod, zero-mod}
 use Rattle.std.proofs.lemmas.Bool.{eqb-true, eqb-false}
 use Rattle.std.proofs.lemmas.List.{map-append, get_or_append_left, get_or-append_right}
-use Rattle.relations.specs.declared.term.Variable.{Variable}
 use Rattle.relations.specs.declared.term.Variable.TheVariants.{One, Input, Witness, Combination}
 use Rattle.relations.specs.Sum.{Pairs, decode, code_in, value}
 use Rattle.relations.specs.Meaning.{Combo, places, kept_at}
@@ -16,7 +15,7 @@ use Rattle.words.proofs.Heads.{kept_snoc}
 use Rattle.words.proofs.Values.{sum_to, sum_same}
 use Rattle.written.specs.declared.Counts.{Counts}
 use Rattle.written.specs.Cells.{variable_at}
-use Rattle.written.specs.Keeps.{up_to, Named, Earlier, Given, Gives, Keeps}
+use Rattle.written.specs.Keeps.{up_to, Named, Earlier, Gives, Keeps}
 use Rattle.systems.specs.declared.store.Part.{Part}
 use Rattle.systems.specs.declared.store.Part.TheVariants.{A, B, C}
 use Rattle.systems.specs.Order.{outline, InOrder, RowsNamed, Ordered}

@@ -3,12 +3,12 @@ use Rattle.std.specs.Prelude.{ℕ, zero, suc, ◌+◌, List, [], ◌∷◌, leng
 use Rattle.std.specs.Coded.{×_prop, Unit-prop}
 use Rattle.std.proofs.Props.{props}
 use Rattle.relations.specs.Sum.{Pairs}
-use Rattle.words.specs.Words.{Kept, Triple, Head, Tagged, combinations, rows}
+use Rattle.words.specs.Words.{Kept, Triple, Head, Tagged}
 use Rattle.words.specs.Once.{Chain-prop, Stack-prop}
 use Rattle.words.specs.State.{State, Fit}
 use Rattle.written.specs.declared.Counts.{Counts}
 use Rattle.written.specs.Keeps.{up_to, Named}
-use Rattle.systems.specs.Order.{outline, InOrder, RowsNamed, Ordered}
+use Rattle.systems.specs.Order.{InOrder, RowsNamed, Ordered}
 
 head_prop : (p end : ℕ) (ws : List ℕ) → IsProp (Head p end ws)
 head_prop p end ws = Prim.hlevel props

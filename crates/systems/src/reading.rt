@@ -7,7 +7,7 @@ ghost use Rattle.systems.specs.Read.{Naming, Reading, RowRead, RowsRead, Combina
 ghost use Rattle.systems.specs.Held.{state, meant_by, at_side, Sized, Refused, CutAt, Barred};
 ghost use Rattle.systems.specs.Verdict.{met, verdict};
 ghost use Rattle.systems.specs.Order.{outline};
-ghost use Rattle.systems.specs.Outline.{width, working, row_sum, coefficients, outlining};
+ghost use Rattle.systems.specs.Outline.{width, working, row_sum, coefficients, outlining, KeepsValue};
 
 use crate::rooms::{Counts, OutlineFault};
 use crate::store::{Part, place, takes};
@@ -214,12 +214,13 @@ impl<'a, F: Field> Valued<'a, F> {
     }
 
     /// Writes out one of the sums of a row, with each combination replaced by its terms: the coefficients of One, of the
-    /// inputs and of the witnesses, in this order. Where it fails `out` is as it was. What it leaves in the words of the
-    /// combinations' places is not said.
+    /// inputs and of the witnesses, in this order. Under each assignment they come to the sum's value. Where it fails `out` is
+    /// as it was. What it leaves in the words of the combinations' places is not said.
     pub fn coefficients(&self, row: usize, part: Part, out: &mut [u32]) -> Result<(), OutlineFault>
         ensures done { result ≡ outlining (length (meant_by self.now).rows) (working (state self.now)) row (length out.old) }
         ensures refused { OnErr result (out.new ≡ out.old) }
         ensures written { OnOk result (take (width (meant_by self.now)) out.new ≡ coefficients F.Field.modulus (meant_by self.now) (row_sum part row (meant_by self.now))) }
+        ensures keeps { OnOk result (KeepsValue F.Field.modulus (meant_by self.now) (row_sum part row (meant_by self.now)) out.new) }
         ensures beyond { OnOk result (drop (working (state self.now)) out.new ≡ drop (working (state self.now)) out.old) }
     {
         if row >= self.store.count {
