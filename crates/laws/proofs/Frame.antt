@@ -1,13 +1,11 @@
 -- Scripts and gadgets one after another.
-use Rattle.std.proofs.Common.{◌≡◌, ℕ, ◌%◌, Bool, true, false, cond, List, [], ◌∷◌, Ok, Err, Option, Result, sym, refl, ap, ◌∙◌, subst}
+use Rattle.std.proofs.Common.{◌≡◌, ℕ, ◌%◌, Bool, true, false, cond, List, [], ◌∷◌, Option, sym, refl, ap, ◌∙◌, subst}
 use Rattle.relations.specs.declared.term.Variable.{Variable}
 use Rattle.relations.specs.declared.term.Variable.TheVariants.{One, Zero}
 use Rattle.relations.specs.declared.term.Term.{Term}
-use Rattle.relations.specs.declared.fault.SystemFault.{SystemFault}
 use Rattle.relations.specs.declared.fault.GadgetFault.{GadgetFault}
-use Rattle.relations.specs.Meaning.{Meaning, ask, new_variable, new_lc, enforce}
 use Rattle.relations.specs.declared.term.Side.{Side}
-use Rattle.relations.specs.Script.{Script, answer, refuse, allocate, combine, row, then, next, asking, run}
+use Rattle.relations.specs.Script.{Script, answer, refuse, allocate, combine, row, then}
 pub use Rattle.laws.specs.Law.{lists}
 use Rattle.laws.specs.Law.{Val, total, Low, Must, Fits, Plan, Plays, Goes, RowMet, Forces, Reaches, Computes, Law, There, Constants, Wider, AllThere, TermsThere, Names, Sees, Tidy, Steady}
 
@@ -463,43 +461,6 @@ all_wider h k up (v ∷ vs) a = (up v a.0, all_wider h k up vs a.1)
 pub terms_wider : (h k : There) → Wider h k → (ts : List Term) → TermsThere h ts → TermsThere k ts
 terms_wider h k up [] a = tt
 terms_wider h k up (t ∷ ts) a = (up t.variable a.0, terms_wider h k up ts a.1)
-
--- ---- a script one after another runs as its parts do
--- a run that goes on from another's end
-abbrev pub after : ℕ → {A B : Type 0} → (A → Script B) → Result A GadgetFault × Meaning → Result B GadgetFault × Meaning
-after p k (Ok x, n) = run p (k x) n
-after p k (Err e, n) = (Err e, n)
-
--- the same behind the values that are asked for
-asking_then : (p : ℕ) {A B : Type 0} (k : A → Script B) (d : Side) (vs : List Variable) (f : List (Option ℕ) → Option ℕ) (c : Variable → Script A) → ((v : Variable) (m : Meaning) → run p (then (c v) k) m ≡ after p k (run p (c v) m)) → (m : Meaning)
-    → asking d vs f (λ v. run p (then (c v) k)) m ≡ after p k (asking d vs f (λ v. run p (c v)) m)
-asking_then p {A} {B} k d [] f c h m = go (new_variable d (f []) m).0 (new_variable d (f []) m).1
-  where
-    go : (r : Result Variable SystemFault) (n : Meaning) → next {A = Variable} {B = B} r n (λ v. run p (then (c v) k)) ≡ after p k (next {A = Variable} {B = A} r n (λ v. run p (c v)))
-    go (Ok v) n = h v n
-    go (Err e) n = refl
-asking_then p {A} {B} k d (v ∷ vs) f c h m = go (ask v m).0 (λ o. asking_then p k d vs (λ os. f (o ∷ os)) c h m)
-  where
-    go : (r : Result (Option ℕ) SystemFault) → ((o : Option ℕ) → asking d vs (λ os. f (o ∷ os)) (λ v. run p (then (c v) k)) m ≡ after p k (asking d vs (λ os. f (o ∷ os)) (λ v. run p (c v)) m))
-        → next {A = Option ℕ} {B = B} r m (λ o. asking d vs (λ os. f (o ∷ os)) (λ v. run p (then (c v) k))) ≡ after p k (next {A = Option ℕ} {B = A} r m (λ o. asking d vs (λ os. f (o ∷ os)) (λ v. run p (c v))))
-    go (Ok o) g = g o
-    go (Err e) g = refl
-
--- two scripts run as the one that they make
-pub run_then : (p : ℕ) {A B : Type 0} (s : Script A) (k : A → Script B) (m : Meaning) → run p (then s k) m ≡ after p k (run p s m)
-run_then p (answer x) k m = refl
-run_then p (refuse e) k m = refl
-run_then p (allocate d vs f c) k m = asking_then p k d vs f c (λ v n. run_then p (c v) k n) m
-run_then p {A} {B} (combine ts c) k m = go (new_lc p ts m).0 (new_lc p ts m).1 (λ v n. run_then p (c v) k n)
-  where
-    go : (r : Result Variable SystemFault) (n : Meaning) → ((v : Variable) (n : Meaning) → run p (then (c v) k) n ≡ after p k (run p (c v) n)) → next {A = Variable} {B = B} r n (λ v. run p (then (c v) k)) ≡ after p k (next {A = Variable} {B = A} r n (λ v. run p (c v)))
-    go (Ok v) n f = f v n
-    go (Err e) n f = refl
-run_then p {A} {B} (row a b c s) k m = go (enforce p a b c m).0 (enforce p a b c m).1 (λ n. run_then p s k n)
-  where
-    go : (r : Result (Unit {0}) SystemFault) (n : Meaning) → ((n : Meaning) → run p (then s k) n ≡ after p k (run p s n)) → next {A = Unit {0}} {B = B} r n (λ u. run p (then s k)) ≡ after p k (next {A = Unit {0}} {B = A} r n (λ u. run p s))
-    go (Ok u) n f = f n
-    go (Err e) n f = refl
 
 -- ---- the values that a script gives
 -- both give values below p

@@ -125,11 +125,6 @@ Alike [] (y ∷ ys) = ⊥
 Alike (x ∷ xs) [] = ⊥
 Alike (x ∷ xs) (y ∷ ys) = (x.sum ≡ y.sum) × Alike xs ys
 
--- a list is like itself
-pub alike_refl : (xs : List Combo) → Alike xs xs
-alike_refl [] = tt
-alike_refl (x ∷ xs) = (refl, alike_refl xs)
-
 -- alike in both parts
 pub alike_append : (xs ys us vs : List Combo) → Alike xs ys → Alike us vs → Alike (xs ++ us) (ys ++ vs)
 alike_append [] [] us vs h k = k

@@ -1,7 +1,8 @@
 -- From what a script means to the numbers to what its run added: soundness and completeness.
-use Rattle.std.proofs.Common.{◌≡◌, ℕ, ◌+◌, ◌*◌, ◌/◌, ◌%◌, ◌<◌, ◌≤◌, Bool, true, false, cond, eqb, List, [], ◌∷◌, ◌++◌, length, Ok, Option, sym, refl, ap, ◌∙◌, subst, ap₂, append_assoc, append-nil, le_refl, mod-lt, mul_assoc, mul_comm, add-mul, mul-zero, zero-mul, arith, length-append, ltb-true, le-ltb, lt-ltb, eq-eqb, ne_eqb}
-use native.Mathlib.Nat.{mod-mod, add-mod-mod, zero-mod, div-add-mod, mul-add-mod_self_left}
+use Rattle.std.proofs.Common.{◌≡◌, ℕ, ◌+◌, ◌*◌, ◌%◌, ◌<◌, ◌≤◌, Bool, true, false, cond, eqb, List, [], ◌∷◌, ◌++◌, length, Ok, Option, sym, refl, ap, ◌∙◌, subst, ap₂, append_assoc, append-nil, le_refl, mod-lt, mul-zero, zero-mul, arith, length-append, ltb-true, le-ltb, lt-ltb, eq-eqb, ne_eqb}
+use native.Mathlib.Nat.{mod-mod, add-mod-mod, zero-mod}
 use borrow.Author.Tests.{clash}
+use Rattle.arith.proofs.Euclid.{mul_mod_l, mul_mod_r}
 use Rattle.relations.specs.declared.term.Variable.{Variable}
 use Rattle.relations.specs.declared.term.Variable.TheVariants.{One, Zero, Input, Witness, Combination}
 use Rattle.relations.specs.declared.term.Term.{Term}
@@ -171,19 +172,7 @@ before p m n g ρ s = record {
 }
 
 -- ---- rows by their terms
--- a product modulo p, from the remainder of a factor
-pub mul_mod_l : (a b p : ℕ) → ((a % p) * b) % p ≡ (a * b) % p
-mul_mod_l a b p =
-    let e : a * b ≡ p * (a / p * b) + a % p * b =
-    ap (λ (t : ℕ). t * b) (sym (div-add-mod a p)) ∙ add-mul (p * (a / p)) (a % p) b ∙ ap (λ (t : ℕ). t + a % p * b) (mul_assoc p (a / p) b)
-    in
-    sym (ap (λ (t : ℕ). t % p) e ∙ mul-add-mod_self_left p (a / p * b) (a % p * b))
-
--- from the remainder of the second factor
-pub mul_mod_r : (a b p : ℕ) → (a * (b % p)) % p ≡ (a * b) % p
-mul_mod_r a b p = ap (λ (t : ℕ). t % p) (mul_comm a (b % p)) ∙ mul_mod_l b a p ∙ ap (λ (t : ℕ). t % p) (mul_comm b a)
-
--- from both remainders
+-- a product modulo p, from the remainders of both factors
 pub mul_mods : (a b p : ℕ) → ((a % p) * (b % p)) % p ≡ (a * b) % p
 mul_mods a b p = mul_mod_l a (b % p) p ∙ mul_mod_r a b p
 

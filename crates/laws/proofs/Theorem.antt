@@ -47,13 +47,6 @@ along_append P [] ys (u ∷ us) vs h k = absurd h
 along_append P (x ∷ xs) ys [] vs h k = absurd h
 along_append P (x ∷ xs) ys (u ∷ us) vs h k = (h.0, along_append P xs ys us vs h.1 k)
 
--- as many numbers as answers
-pub along_length : {A : Type 0} (P : A → ℕ → Type 0) (xs : List A) (us : List ℕ) → Along P xs us → length xs ≡ length us
-along_length P [] [] h = refl
-along_length P [] (u ∷ us) h = absurd h
-along_length P (x ∷ xs) [] h = absurd h
-along_length P (x ∷ xs) (u ∷ us) h = ap (λ (n : ℕ). suc n) (along_length P xs us h.1)
-
 -- ---- answers of a kind of their own
 module _ {Answer : Type 0} (num : Val → Answer → ℕ) (Known : There → Answer → Type 0) (local : (h : There) (ρ σ : Val) → Agree h ρ σ → (o : Answer) → Known h o → num σ o ≡ num ρ o) where
   -- numbers that agree on what is there give the answers the same numbers

@@ -5,7 +5,7 @@ use Rattle.relations.specs.Meaning.{Meaning}
 use Rattle.systems.specs.declared.store.Part.{Part}
 use Rattle.systems.specs.declared.store.Part.TheVariants.{A, B, C}
 use Rattle.systems.specs.Outline.{coefficients, row_sum}
-use Rattle.relations.specs.Unmet.{first_unmet}
+use Rattle.systems.specs.Verdict.{verdict}
 use Rattle.report.specs.Text.{Sums, Page, sum_text, row_text}
 
 -- a row's sums, written out
@@ -13,7 +13,7 @@ abbrev pub sums_of : ℕ → Meaning → Row → Sums
 sums_of p m r = record { left = coefficients p m r.a; right = coefficients p m r.b; product = coefficients p m r.c }
 
 abbrev pub page_of : ℕ → Meaning → Page
-page_of p m = record { inputs = length m.inputs; witnesses = length m.witnesses; rows = map (sums_of p m) m.rows; unmet = first_unmet p m }
+page_of p m = record { inputs = length m.inputs; witnesses = length m.witnesses; rows = map (sums_of p m) m.rows; verdict = verdict p m }
 
 -- the text of a part of row i, and of its line
 abbrev pub part_text : ℕ → Meaning → ℕ → Part → List ℕ

@@ -1,8 +1,10 @@
 -- The text of a report, as the list of its bytes.
-use Rattle.std.specs.Prelude.{ℕ, ◌+◌, ◌-◌, cond, List, [], ◌∷◌, ◌++◌, length, Some, None, codes, decimal, Option, ◌==◌, nat_le}
+use Rattle.std.specs.Prelude.{ℕ, ◌+◌, ◌-◌, cond, List, [], ◌∷◌, ◌++◌, length, codes, decimal, ◌==◌, nat_le}
 use Rattle.std.specs.List.{flat_map}
 use Rattle.command.specs.declared.answers.Refused.{Refused}
 use Rattle.command.specs.Refusals.{refused_text}
+use Rattle.systems.specs.declared.reading.Verdict.{Verdict}
+use Rattle.systems.specs.declared.reading.Verdict.TheVariants.{Met, Unmet}
 
 -- ---- sums
 -- the name of the variable with the index k: one, then the inputs, then the witnesses
@@ -47,9 +49,9 @@ abbrev pub counts_text : ℕ → ℕ → ℕ → List ℕ
 counts_text inputs witnesses rows =
     codes "inputs " ++ (decimal inputs ++ (codes " witnesses " ++ (decimal witnesses ++ (codes " rows " ++ (decimal rows ++ codes "\n")))))
 
-abbrev pub verdict_text : Option ℕ → List ℕ
-verdict_text None = codes "met\n"
-verdict_text (Some k) = codes "unmet " ++ (decimal k ++ codes "\n")
+abbrev pub verdict_text : Verdict → List ℕ
+verdict_text Met = codes "met\n"
+verdict_text (Unmet k) = codes "unmet " ++ (decimal k ++ codes "\n")
 
 -- ---- the whole
 -- a row, as the coefficients of its three sums: that of one, then those of the inputs, then those of the witnesses
@@ -61,15 +63,15 @@ pub record Sums : Type 0 where
 abbrev pub rows_text : ℕ → List Sums → List ℕ
 rows_text inputs ss = flat_map (λ s. row_text inputs s.left s.right s.product) ss
 
--- what is reported of a system: how many inputs and witnesses it has, its rows, and the number of the first that is not met
+-- what is reported of a system: how many inputs and witnesses it has, its rows, and whether they are met
 pub record Page : Type 0 where
   pub inputs : ℕ
   pub witnesses : ℕ
   pub rows : List Sums
-  pub unmet : Option ℕ
+  pub verdict : Verdict
 
 abbrev pub report_text : List Refused → Page → List ℕ
 report_text refused page =
     refusals_text refused
     ++ (counts_text page.inputs page.witnesses (length page.rows)
-    ++ (rows_text page.inputs page.rows ++ verdict_text page.unmet))
+    ++ (rows_text page.inputs page.rows ++ verdict_text page.verdict))

@@ -5,6 +5,7 @@ use command::Refused;
 use std::alloc::AllocError;
 use std::fmt;
 use std::fmt::Display;
+use systems::Verdict;
 
 /// Appends what a value shows as `{}`. Where it fails, memory was wanting, and how much of the value was written is not said.
 pub(crate) fn push_shown<D: Display + Drop>(text: &mut String, value: D) -> Result<(), AllocError>
@@ -30,21 +31,21 @@ impl Display for Refusals<'_> {
 
 /// The last line: `met`, or `unmet` with the number of the first row that is not met.
 #[derive(Clone, Copy)]
-struct Verdict(Option<u32>);
+struct LastLine(Verdict);
 
-impl Display for Verdict {
-    ghost output = { λ verdict. Some (verdict_text verdict.0) };
+impl Display for LastLine {
+    ghost output = { λ line. Some (verdict_text line.0) };
 
     fn fmt<W: fmt::Write>(&self, f: &mut fmt::Formatter<W>) -> fmt::Result {
         match self.0 {
-            None => writeln!(f, "met"),
-            Some(row) => writeln!(f, "unmet {row}"),
+            Verdict::Met => writeln!(f, "met"),
+            Verdict::Unmet(row) => writeln!(f, "unmet {row}"),
         }
     }
 }
 
 /// Appends a line for each refusal, in their order: `refused 4 2 1` for the command 4, refused with the number 2 by the layer 1.
-pub fn push_refusals(text: &mut String, refusals: &[Refused]) -> Result<(), AllocError>
+pub(crate) fn push_refusals(text: &mut String, refusals: &[Refused]) -> Result<(), AllocError>
     ensures { OnOk result (string_bytes text.new ≡ string_bytes text.old ++ refusals_text refusals.now) }
 {
     push_shown(text, Refusals(refusals))
@@ -52,7 +53,7 @@ pub fn push_refusals(text: &mut String, refusals: &[Refused]) -> Result<(), Allo
 
 // No type of its own: the three counts are shown in this one line, and `format_args!` is a `Display` already.
 /// Appends the line `inputs 0 witnesses 3 rows 3`.
-pub fn push_counts(
+pub(crate) fn push_counts(
     text: &mut String,
     inputs: usize,
     witnesses: usize,
@@ -67,8 +68,8 @@ pub fn push_counts(
 }
 
 /// Appends the last line: `met`, or `unmet` with the number of the first row that is not met.
-pub fn push_verdict(text: &mut String, first_unmet: Option<u32>) -> Result<(), AllocError>
-    ensures { OnOk result (string_bytes text.new ≡ string_bytes text.old ++ verdict_text first_unmet) }
+pub(crate) fn push_verdict(text: &mut String, verdict: Verdict) -> Result<(), AllocError>
+    ensures { OnOk result (string_bytes text.new ≡ string_bytes text.old ++ verdict_text verdict) }
 {
-    push_shown(text, Verdict(first_unmet))
+    push_shown(text, LastLine(verdict))
 }

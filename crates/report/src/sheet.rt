@@ -89,6 +89,6 @@ pub fn report<'a, F: Field>(
     push_refusals(&mut text, refusals)?;
     push_counts(&mut text, inputs, witnesses, rows)?;
     Sheet::new(heap, system)?.push_rows(&mut text)?;
-    push_verdict(&mut text, system.first_unmet())?;
+    push_verdict(&mut text, system.verdict())?;
     Ok(text)
 }

@@ -1,7 +1,9 @@
-use crate::{push_refusals, push_sum, push_verdict};
+use crate::lines::{push_refusals, push_verdict};
+use crate::sums::push_sum;
 use command::Refused;
 use relations::Refusal;
 use std::test::Fail;
+use systems::Verdict;
 
 fn refused(command: u32) -> Refused {
     let refusal = Refusal {
@@ -21,7 +23,7 @@ fn refused_and_unmet(rt: HostRuntime) -> Result<(), Fail> {
     text.push_str(" ; ")?;
     push_sum(&mut text, &[1], 2)?;
     text.push_str("\n")?;
-    push_verdict(&mut text, Some(17))?;
+    push_verdict(&mut text, Verdict::Unmet(17))?;
     assert_eq!(rt;
         text.as_str(),
         "refused 0 11 1\nrefused 20 11 1\n2 i0 + 3 w0 + 4 w1 ; 0 ; 1 one\nunmet 17\n"

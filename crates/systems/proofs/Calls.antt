@@ -69,9 +69,6 @@ set_more n x b vs l = sym (tabulate_more n (λ j. Some (get_or (set vs (b + n) x
     ∙ (λ i. tabulate_same n (λ j. Some (get_or (set vs (b + n) x) (b + j) 0)) (λ j. Some (get_or vs (b + j) 0)) (λ j h. ap Some (get_or-set_other vs (b + n) (b + j) x 0 (λ e. omega arith))) i
     ++ (Some (get_or-set_same vs (b + n) x 0 l i) ∷ [])))
 
-zero_plus : (n : ℕ) → 0 + n ≡ n
-zero_plus n = omega arith
-
 input_more : (n x : ℕ) (vs : List ℕ) → n < length vs → tabulate n (λ j. Some (get_or vs j 0)) ++ (Some x ∷ []) ≡ tabulate (n + 1) (λ j. Some (get_or (set vs n x) j 0))
 input_more n x vs l = sym (tabulate_more n (λ j. Some (get_or (set vs n x) j 0))
     ∙ (λ i. tabulate_same n (λ j. Some (get_or (set vs n x) j 0)) (λ j. Some (get_or vs j 0)) (λ j h. ap Some (get_or-set_other vs n j x 0 (λ e. omega arith))) i
@@ -206,12 +203,12 @@ lc_full s ts n f e q h =
     let z : leb (used (view s) + (length (whole s.modulus ts) + 1)) s.term_room ≡ false = lt-leb _ _ (omega (arith, used_is s f, f.terms_in, f.back_in)) in
     refuse (new_lc s.modulus ts) s TermsFull f (rw (t, z))
 
-lc_combos : (s : State) (ts : List Term) (n kept : ℕ) (vs : List ℕ) → Fit s → LcWritten s.modulus s.front n kept ts s.term_words vs → combinations (s.lcs + 1) (s.front + n + 1) vs ≡ combinations s.lcs s.front s.term_words ++ (record { terms = whole s.modulus ts; word = kept } ∷ [])
+pub lc_combos : (s : State) (ts : List Term) (n kept : ℕ) (vs : List ℕ) → Fit s → LcWritten s.modulus s.front n kept ts s.term_words vs → combinations (s.lcs + 1) (s.front + n + 1) vs ≡ combinations s.lcs s.front s.term_words ++ (record { terms = whole s.modulus ts; word = kept } ∷ [])
 lc_combos s ts n kept vs f x =
     combinations_more s.lcs s.front n vs x.heading
     ∙ (λ i. sym (combinations_same s.lcs s.front s.term_words vs (λ j a b. sym (x.below j b)) f.chain) i ++ (record { terms = x.holds i; word = x.word i } ∷ []))
 
-lc_rows : (s : State) (ts : List Term) (n kept : ℕ) (vs : List ℕ) → Fit s → n < s.back - s.front → LcWritten s.modulus s.front n kept ts s.term_words vs → rows s.count s.row_words s.term_words ≡ rows s.count s.row_words vs
+pub lc_rows : (s : State) (ts : List Term) (n kept : ℕ) (vs : List ℕ) → Fit s → n < s.back - s.front → LcWritten s.modulus s.front n kept ts s.term_words vs → rows s.count s.row_words s.term_words ≡ rows s.count s.row_words vs
 lc_rows s ts n kept vs f h x = rows_same s.term_room s.count s.row_words s.row_words s.term_words vs (λ j a b. refl) (λ j a b. sym (x.above j (omega (arith, f.at_floor)))) f.stack
 
 lc_fit : (s : State) (ts : List Term) (n kept : ℕ) (vs : List ℕ) → Fit s → true ≡ has_all (view s) ts → n < s.back - s.front → kept < s.modulus → length vs ≡ length s.term_words → LcWritten s.modulus s.front n kept ts s.term_words vs → Fit (with_lc s n vs)
@@ -315,10 +312,10 @@ row_full s a b c la lb lc f x h =
     let y : ltb (length (view s).rows) s.row_room ≡ false = le-ltb _ _ (omega (arith, rows_long s)) in
     refuse (enforce s.modulus a b c) s RowsFull f (rw (t, z, y))
 
-row_combos : (s : State) (a b c : List Term) (low : ℕ) (qs vs : List ℕ) → Fit s → s.front ≤ low → RowWritten s.modulus s.count s.back low a b c s.row_words qs s.term_words vs → combinations s.lcs s.front s.term_words ≡ combinations s.lcs s.front vs
+pub row_combos : (s : State) (a b c : List Term) (low : ℕ) (qs vs : List ℕ) → Fit s → s.front ≤ low → RowWritten s.modulus s.count s.back low a b c s.row_words qs s.term_words vs → combinations s.lcs s.front s.term_words ≡ combinations s.lcs s.front vs
 row_combos s a b c low qs vs f h x = combinations_same s.lcs s.front s.term_words vs (λ j u v. sym (x.terms_below j (omega arith))) f.chain
 
-row_rows : (s : State) (a b c : List Term) (low : ℕ) (qs vs : List ℕ) → Fit s → RowWritten s.modulus s.count s.back low a b c s.row_words qs s.term_words vs → rows (s.count + 1) qs vs ≡ rows s.count s.row_words s.term_words ++ (triple s.modulus a b c ∷ [])
+pub row_rows : (s : State) (a b c : List Term) (low : ℕ) (qs vs : List ℕ) → Fit s → RowWritten s.modulus s.count s.back low a b c s.row_words qs s.term_words vs → rows (s.count + 1) qs vs ≡ rows s.count s.row_words s.term_words ++ (triple s.modulus a b c ∷ [])
 row_rows s a b c low qs vs f x =
     rows_more s.count qs vs
     ∙ (λ i. sym (rows_same s.term_room s.count s.row_words qs s.term_words vs (λ j u v. sym (x.rows_kept j v)) (λ j u v. sym (x.terms_above j (omega (arith, f.at_floor)))) f.stack) i ++ (x.holds i ∷ []))

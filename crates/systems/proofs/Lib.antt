@@ -3,6 +3,8 @@ pub mod Grown
 pub mod Calls
 pub mod Variables
 pub mod Rewinds
-pub mod Unmet
+pub mod Verdicts
+pub mod Order
+pub mod Worth
 pub mod Outline
 pub mod Readers

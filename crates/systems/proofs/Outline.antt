@@ -4,24 +4,25 @@ use borrow.Author.Tests.{lt-leb}
 use Rattle.std.proofs.lemmas.Bool.{eqb-true, eqb-false}
 use Rattle.relations.specs.declared.term.Variable.{Variable}
 use Rattle.relations.specs.declared.term.Variable.TheVariants.{One, Input, Witness}
-use Rattle.relations.specs.Sum.{Row, row_of}
-use Rattle.relations.specs.Written.{written}
-use Rattle.words.specs.Words.{tabulate}
+use Rattle.relations.specs.Sum.{Sum, Row, row_of}
+use Rattle.words.specs.Words.{tabulate, pairs, plain}
 use Rattle.words.specs.State.{State, Fit, view}
 use Rattle.words.proofs.Cuts.{lies}
 use Rattle.words.proofs.Tables.{tabulate_same, tabulate_length}
 use Rattle.written.specs.declared.Counts.{Counts}
 use Rattle.written.specs.declared.writer.Writer.{Writer}
 use Rattle.written.specs.Cells.{cells, Lies, Over, written_out}
-use Rattle.written.proofs.Rows.{readable}
+use Rattle.written.specs.Keeps.{Keeps}
+use Rattle.systems.proofs.Worth.{part_worth}
 use Rattle.systems.specs.declared.rooms.OutlineFault.{OutlineFault}
 use Rattle.systems.specs.declared.rooms.OutlineFault.TheVariants.{NoSuchRow, TooShort}
 use Rattle.systems.specs.declared.store.Part.{Part}
 use Rattle.systems.specs.declared.store.Part.TheVariants.{A, B, C}
 use Rattle.systems.proofs.Views.{rows_long}
 use Rattle.systems.specs.Read.{Writing}
-use Rattle.systems.specs.Outline.{place, outline, working, width, placed, coefficients, row_sum, outlining}
-use Rattle.systems.proofs.Unmet.{row_is}
+use Rattle.systems.specs.Order.{outline, Ordered}
+use Rattle.systems.specs.Outline.{place, working, width, placed, coefficients, row_sum, outlining, KeepsValue}
+use Rattle.systems.proofs.Verdicts.{row_is}
 
 -- the words of a part lie in their room
 part_lies : (s : State) (part : Part) (i : ℕ) → Fit s → i < s.count → get_or s.row_words (place part i) 0 + get_or s.row_words (place part i + 1) 0 ≤ s.term_room
@@ -29,11 +30,15 @@ part_lies s A i f h = (lies s.term_room i s.count s.row_words h f.stack).a
 part_lies s B i f h = (lies s.term_room i s.count s.row_words h f.stack).b
 part_lies s C i f h = (lies s.term_room i s.count s.row_words h f.stack).c
 
--- what comes out is the part's sum, written out
-pub part_written : (s : State) (part : Part) (i : ℕ) → i < s.count → written_out s.modulus (outline s) (get_or s.row_words (place part i) 0) (get_or s.row_words (place part i + 1) 0) s.term_words ≡ written s.modulus (view s) (row_sum part i (view s))
-part_written s A i h = ap (λ (r : Row). written s.modulus (view s) r.a) (sym (row_is s i (row_of 0 [] [] []) h))
-part_written s B i h = ap (λ (r : Row). written s.modulus (view s) r.b) (sym (row_is s i (row_of 0 [] [] []) h))
-part_written s C i h = ap (λ (r : Row). written s.modulus (view s) r.c) (sym (row_is s i (row_of 0 [] [] []) h))
+-- terms in their room lie in the words
+lies_in : (s : State) (start len : ℕ) → Fit s → start + len ≤ s.term_room → Lies start len s.term_words
+lies_in s start len f h = record { long = omega (arith, f.terms_long); limit = omega (arith, f.term_limit) }
+
+-- they mean the part's sum
+part_is : (s : State) (part : Part) (i : ℕ) → i < s.count → plain s.modulus (pairs (get_or s.row_words (place part i) 0) (get_or s.row_words (place part i + 1) 0) s.term_words) ≡ row_sum part i (view s)
+part_is s A i h = ap (λ (r : Row). r.a) (sym (row_is s i (row_of 0 [] [] []) h))
+part_is s B i h = ap (λ (r : Row). r.b) (sym (row_is s i (row_of 0 [] [] []) h))
+part_is s C i h = ap (λ (r : Row). r.c) (sym (row_is s i (row_of 0 [] [] []) h))
 
 -- the first n of a list, place by place
 take_more : (n : ℕ) (xs : List ℕ) → n < length xs → take (suc n) xs ≡ take n xs ++ (get_or xs n 0 ∷ [])
@@ -82,15 +87,18 @@ shaped n f os qs i w ei ew o h =
 pub record Outlined (s : State) (part : Part) (i : ℕ) (os qs : List ℕ) : Type 0 where
   pub written : take (width (view s)) qs ≡ coefficients s.modulus (view s) (row_sum part i (view s))
   pub beyond : drop (working s) qs ≡ drop (working s) os
+  pub keeps : KeepsValue s.modulus (view s) (row_sum part i (view s)) qs
 
-outlined_so : (s : State) (part : Part) (i : ℕ) (os qs : List ℕ) → i < s.count → length qs ≡ length os → working s ≤ length os →
-    Over (outline s) (written_out s.modulus (outline s) (get_or s.row_words (place part i) 0) (get_or s.row_words (place part i + 1) 0) s.term_words) os qs → Outlined s part i os qs
-outlined_so s part i os qs h e l o =
+outlined_so : (s : State) (part : Part) (i : ℕ) (os qs : List ℕ) → Fit s → Ordered s → i < s.count → length qs ≡ length os → working s ≤ length os →
+    Over (outline s) (written_out s.modulus (outline s) (get_or s.row_words (place part i) 0) (get_or s.row_words (place part i + 1) 0) s.term_words) os qs →
+    Keeps s.modulus (outline s) (get_or s.row_words (place part i) 0) (get_or s.row_words (place part i + 1) 0) s.term_words qs → Outlined s part i os qs
+outlined_so s part i os qs f r h e l o k =
     let ei : length (view s).inputs ≡ s.inputs = tabulate_length s.inputs _ in
     let ew : length (view s).witnesses ≡ s.witnesses = tabulate_length s.witnesses _ in
     record {
-      written = shaped (outline s) _ os qs (length (view s).inputs) (length (view s).witnesses) ei ew o (omega (arith, ei, ew)) ∙ ap (λ (f : Variable → ℕ). tabulate (width (view s)) (λ j. f (placed (length (view s).inputs) j))) (part_written s part i h);
+      written = shaped (outline s) _ os qs (length (view s).inputs) (length (view s).witnesses) ei ew o (omega (arith, ei, ew)) ∙ ap (λ (z : Sum). coefficients s.modulus (view s) z) (part_is s part i h);
       beyond = beyond_same (working s) os qs e o.beyond;
+      keeps = subst (λ (z : Sum). KeepsValue s.modulus (view s) z qs) (part_is s part i h) (part_worth s part i qs f r h (omega (arith, e)) k);
     }
 
 -- ---- what writing a part of row i out comes to
@@ -116,10 +124,12 @@ pub part_lies_read : (s : State) (part : Part) (i at : ℕ) (ws : List ℕ) → 
 part_lies_read s part i at ws ea e f h =
     subst (λ (vs : List ℕ). Lies (get_or s.row_words at 0) (get_or s.row_words (at + 1) 0) vs) (sym e)
     (subst (λ (x : ℕ). Lies (get_or s.row_words x 0) (get_or s.row_words (x + 1) 0) s.term_words) (sym ea)
-    (readable s (get_or s.row_words (place part i) 0) (get_or s.row_words (place part i + 1) 0) f (part_lies s part i f h)).terms)
+    (lies_in s (get_or s.row_words (place part i) 0) (get_or s.row_words (place part i + 1) 0) f (part_lies s part i f h)))
 
-pub outlined_read : (s : State) (part : Part) (i at : ℕ) (w : Writer) (os qs : List ℕ) → at ≡ place part i → Writing s w → i < s.count → length qs ≡ length os → cells w.counts ≤ length os →
-    Over w.counts (written_out w.modulus w.counts (get_or s.row_words at 0) (get_or s.row_words (at + 1) 0) w.terms.now) os qs → Outlined s part i os qs
-outlined_read s part i at w os qs ea e h q l o =
-    outlined_so s part i os qs h q (subst (λ (m : Counts). cells m ≤ length os) e.counts l)
+pub outlined_read : (s : State) (part : Part) (i at : ℕ) (w : Writer) (os qs : List ℕ) → at ≡ place part i → Writing s w → Fit s → Ordered s → i < s.count → length qs ≡ length os → cells w.counts ≤ length os →
+    Over w.counts (written_out w.modulus w.counts (get_or s.row_words at 0) (get_or s.row_words (at + 1) 0) w.terms.now) os qs →
+    Keeps w.modulus w.counts (get_or s.row_words at 0) (get_or s.row_words (at + 1) 0) w.terms.now qs → Outlined s part i os qs
+outlined_read s part i at w os qs ea e f r h q l o k =
+    outlined_so s part i os qs f r h q (subst (λ (m : Counts). cells m ≤ length os) e.counts l)
     (subst (λ (x : Type 0). x) (λ j. Over (e.counts j) (written_out (e.modulus j) (e.counts j) (get_or s.row_words (ea j) 0) (get_or s.row_words (ea j + 1) 0) (e.terms j)) os qs) o)
+    (subst (λ (x : Type 0). x) (λ j. Keeps (e.modulus j) (e.counts j) (get_or s.row_words (ea j) 0) (get_or s.row_words (ea j + 1) 0) (e.terms j) qs) k)

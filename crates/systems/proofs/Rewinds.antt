@@ -1,9 +1,8 @@
 -- A cut of a system over words does its step.
-use Rattle.std.proofs.Common.{◌≡◌, ℕ, ◌+◌, ◌<◌, ◌≤◌, Bool, true, false, ◌&&◌, leb, map, length, get_or, take, Some, Ok, Err, Result, sym, refl, ap, ◌∙◌, arith, le-leb, List, subst}
+use Rattle.std.proofs.Common.{◌≡◌, ℕ, ◌+◌, ◌<◌, ◌≤◌, Bool, true, false, ◌&&◌, leb, map, length, get_or, take, Some, Ok, Result, sym, refl, ap, ◌∙◌, arith, le-leb, List, subst}
 use borrow.Author.Tests.{lt-leb}
 use Rattle.std.proofs.lemmas.List.{take-map}
 use Rattle.relations.specs.declared.fault.SystemFault.{SystemFault}
-use Rattle.relations.specs.declared.fault.SystemFault.TheVariants.{MarkRefused}
 use Rattle.relations.specs.Meaning.{Ran, places, combos_within, rows_within, may_cut, rewind, Cuts}
 use Rattle.words.specs.declared.scan.Combinations.{Combinations}
 use Rattle.words.specs.Words.{combinations, combo, Chain, rows, meant, lists_in, triples_in, Tagged}
@@ -65,9 +64,6 @@ pub record Rewound (s : State) (i w k n : ℕ) (r : Result (Unit {0}) SystemFaul
   pub fit : Fit t
   pub does : Ran (rewind i w k n) (view s) r (view t)
   pub cuts : Cuts r (view t) (words_of s) (words_of t)
-
-pub refused : (s : State) (i w k r : ℕ) → Fit s → Barred s i w k r → Rewound s i w k r (Err MarkRefused) s
-refused s i w k r f t = record { fit = f; does = rw t; cuts = refl }
 
 cut_fit : (s : State) (i w k r end low : ℕ) → Fit s → CutAt s i w k r end low → Fit (cut_state s i w k r end low)
 cut_fit s i w k r end low f x = record {

@@ -1,5 +1,5 @@
 -- A new variable on either side.
-use Rattle.std.proofs.Common.{◌≡◌, ℕ, ◌+◌, ◌<◌, ◌≤◌, set, Some, None, Ok, Err, Option, sym, ap, ◌∙◌, subst}
+use Rattle.std.proofs.Common.{◌≡◌, ℕ, ◌+◌, ◌<◌, ◌≤◌, set, Some, None, Ok, Err, List, Option, refl, sym, ap, ◌∙◌, subst, arith}
 use Rattle.relations.specs.declared.term.Variable.TheVariants.{Input, Witness}
 use Rattle.relations.specs.declared.term.Side.{Side}
 use Rattle.relations.specs.declared.term.Side.TheVariants.{Input as input, Witness as witness}
@@ -8,7 +8,9 @@ use Rattle.relations.specs.declared.fault.SystemFault.TheVariants.{MissingValue}
 use Rattle.relations.specs.Meaning.{Ran, new_variable}
 use Rattle.words.specs.State.{State, Fit, view}
 use Rattle.systems.specs.Held.{at_side}
+use Rattle.systems.specs.Order.{Ordered}
 use Rattle.systems.proofs.Grown.{Done}
+use Rattle.systems.proofs.Order.{variable_ordered}
 use Rattle.systems.proofs.Calls.{inputs_to, witnesses_to, input_full, witness_full, input_missing, witness_missing, input_new, witness_new}
 
 abbrev pub Side_state : Type 0
@@ -47,3 +49,14 @@ witness_added s d k o x f e ed h eo b =
     (subst (λ (d : Side). Done (new_variable d o) s (Ok (Witness s.witnesses)) (witnesses_to s s.witnesses (set s.value_words (s.input_room + s.witnesses) x))) (sym ed)
     (subst (λ (o : Option ℕ). Done (new_variable witness o) s (Ok (Witness s.witnesses)) (witnesses_to s s.witnesses (set s.value_words (s.input_room + s.witnesses) x))) (sym eo)
     (witness_new s x f (subst (λ (k : Side_state). k.0 < k.1) at h) b)))
+
+-- the terms stay in order
+pub input_ordered : (s : State) (d : Side) (k : Side_state) (vs : List ℕ) → k ≡ at_side s d → d ≡ input → Ordered s → Ordered (inputs_to s k.0 vs)
+input_ordered s d k vs e ed o =
+    subst (λ (n : ℕ). Ordered (inputs_to s n vs)) (sym (ap (λ (k : Side_state). k.0) (e ∙ ap (at_side s) ed)))
+    (variable_ordered s (inputs_to s s.inputs vs) (omega arith, omega arith) (omega arith) refl refl o)
+
+pub witness_ordered : (s : State) (d : Side) (k : Side_state) (vs : List ℕ) → k ≡ at_side s d → d ≡ witness → Ordered s → Ordered (witnesses_to s k.0 vs)
+witness_ordered s d k vs e ed o =
+    subst (λ (n : ℕ). Ordered (witnesses_to s n vs)) (sym (ap (λ (k : Side_state). k.0) (e ∙ ap (at_side s) ed)))
+    (variable_ordered s (witnesses_to s s.witnesses vs) (omega arith, omega arith) (omega arith) refl refl o)

@@ -8,7 +8,7 @@ use Rattle.relations.specs.declared.term.Variable.TheVariants.{One, Zero, Input,
 use Rattle.relations.specs.declared.term.Term.{Term}
 use Rattle.relations.specs.Sum.{Pairs, code, decode, handed, code_in, all_in, value}
 use Rattle.relations.specs.Meaning.{known, all_known, number, places, rows_use, used, has, has_all, assigned, ask, combos_within, rows_within, Sane}
-use Rattle.words.specs.Words.{combinations, combo, rows, meant, there, all_there, word_of, worth, Reads, Small}
+use Rattle.words.specs.Words.{combinations, combo, rows, meant, there, all_there, word_of, worth, Small}
 use Rattle.words.specs.State.{State, Fit, view}
 use Rattle.words.proofs.Tables.{tabulate_length, tabulate_at}
 use Rattle.words.proofs.Areas.{combinations_used, combinations_length, rows_length, rows_used}
@@ -44,9 +44,6 @@ sane_is s f = record {
 }
 
 -- ---- variables
-pub reads : (s : State) → Fit s → Reads s.inputs s.witnesses s.front s.input_room s.value_words s.term_words
-reads s f = record { inputs = f.inputs_in; witnesses = omega arith; headings = omega arith; input_limit = f.input_limit; witness_limit = omega arith; place_limit = omega arith }
-
 pub has_is : (s : State) (v : Variable) → Fit s → there s.inputs s.witnesses s.front s.term_words v ≡ has (view s) v
 has_is s v f = there_known s.modulus s.inputs s.witnesses s.lcs s.front s.term_words v f.chain f.tagged ∙ sym (λ i. known (inputs_long s i) (witnesses_long s i) (view s).combos v)
 

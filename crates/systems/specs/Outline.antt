@@ -1,13 +1,13 @@
 -- A row's sums written out: over One, the inputs and the witnesses.
-use Rattle.std.specs.Prelude.{ℕ, ◌+◌, ◌-◌, ◌*◌, cond, List, [], length, Ok, Err, Result, ◌==◌, nat_le, nat_lt, slice_index_or}
+use Rattle.std.specs.Prelude.{◌≡◌, ℕ, ◌+◌, ◌-◌, ◌*◌, ◌%◌, cond, List, [], ◌∷◌, ◌++◌, length, Ok, Err, Result, ◌==◌, nat_le, nat_lt, slice_index_or}
 use Rattle.relations.specs.declared.term.Variable.{Variable}
 use Rattle.relations.specs.declared.term.Variable.TheVariants.{One, Input, Witness}
 use Rattle.relations.specs.Sum.{Sum, Row, row_of}
 use Rattle.relations.specs.Meaning.{Meaning}
 use Rattle.relations.specs.Written.{written}
+use Rattle.laws.specs.Runs.{Assignment, values}
 use Rattle.words.specs.Words.{tabulate}
 use Rattle.words.specs.State.{State}
-use Rattle.written.specs.declared.Counts.{Counts}
 use Rattle.systems.specs.declared.rooms.OutlineFault.{OutlineFault}
 use Rattle.systems.specs.declared.rooms.OutlineFault.TheVariants.{NoSuchRow, TooShort}
 use Rattle.systems.specs.declared.store.Part.{Part}
@@ -18,10 +18,6 @@ abbrev pub place : Part → ℕ → ℕ
 place A i = 6 * i
 place B i = 6 * i + 2
 place C i = 6 * i + 4
-
--- how much there is to write a sum out over
-abbrev pub outline : State → Counts
-outline s = record { inputs = s.inputs; witnesses = s.witnesses; lcs = s.lcs; front = s.front }
 
 -- how many words it takes
 abbrev pub working : State → ℕ
@@ -51,3 +47,18 @@ part_of C r = r.c
 -- one of the sums of row i
 abbrev pub row_sum : Part → ℕ → Meaning → Sum
 row_sum part i m = part_of part (slice_index_or m.rows i (row_of 0 [] [] []))
+
+-- ---- what the coefficients of a sum are worth
+-- the products of two lists, place by place as far as both go, summed
+abbrev pub dot : List ℕ → List ℕ → ℕ
+dot [] ys = 0
+dot (x ∷ xs) [] = 0
+dot (x ∷ xs) (y ∷ ys) = x * y + dot xs ys
+
+-- what an assignment gives One, the inputs and the witnesses, in the order of coefficients
+abbrev pub numbers : {p : ℕ} {m : Meaning} → Assignment p m → List ℕ
+numbers a = 1 ∷ (a.inputs ++ a.witnesses)
+
+-- under each assignment a sum's value is what the coefficients come to, each times the number of its variable
+abbrev pub KeepsValue : ℕ → Meaning → Sum → List ℕ → Type 0
+KeepsValue p m s cs = (a : Assignment p m) → s.value (values m a) ≡ dot cs (numbers a) % p

@@ -1,10 +1,14 @@
--- A system is well laid in one way at most.
-use Rattle.std.specs.Prelude.{ℕ, zero, suc, List}
+-- A system is well laid, and in order, in one way at most.
+use Rattle.std.specs.Prelude.{ℕ, zero, suc, ◌+◌, List, [], ◌∷◌, length}
 use Rattle.std.specs.Coded.{×_prop, Unit-prop}
 use Rattle.std.proofs.Props.{props}
-use Rattle.words.specs.Words.{Head, Tagged}
+use Rattle.relations.specs.Sum.{Pairs}
+use Rattle.words.specs.Words.{Kept, Triple, Head, Tagged}
 use Rattle.words.specs.Once.{Chain-prop, Stack-prop}
 use Rattle.words.specs.State.{State, Fit}
+use Rattle.written.specs.declared.Counts.{Counts}
+use Rattle.written.specs.Keeps.{up_to, Named}
+use Rattle.systems.specs.Order.{InOrder, RowsNamed, Ordered}
 
 head_prop : (p end : ℕ) (ws : List ℕ) → IsProp (Head p end ws)
 head_prop p end ws = Prim.hlevel props
@@ -15,3 +19,18 @@ tagged_prop p (suc k) end ws = ×_prop (head_prop p end ws) (tagged_prop p k _ w
 
 pub fit_prop : (s : State) → IsProp (Fit s)
 fit_prop s = Prim.hlevel (props, Chain-prop, tagged_prop, Stack-prop)
+
+named_prop : (n : Counts) (ts : Pairs) → IsProp (Named n ts)
+named_prop n [] = Unit-prop
+named_prop n (t ∷ ts) = let rest = named_prop n ts in Prim.hlevel (props, rest)
+
+in_order_prop : (n : Counts) (e : ℕ) (xs : List Kept) → IsProp (InOrder n e xs)
+in_order_prop n e [] = Unit-prop
+in_order_prop n e (x ∷ xs) = ×_prop (named_prop (up_to n e) x.terms) (in_order_prop n (e + length x.terms + 1) xs)
+
+rows_named_prop : (n : Counts) (ts : List Triple) → IsProp (RowsNamed n ts)
+rows_named_prop n [] = Unit-prop
+rows_named_prop n (t ∷ ts) = ×_prop (Prim.hlevel (props, named_prop)) (rows_named_prop n ts)
+
+pub ordered_prop : (s : State) → IsProp (Ordered s)
+ordered_prop s = Prim.hlevel (props, in_order_prop, rows_named_prop)

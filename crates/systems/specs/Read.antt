@@ -8,7 +8,7 @@ use Rattle.words.specs.declared.scan.Combinations.{Combinations}
 use Rattle.words.specs.Words.{Triple, stored}
 use Rattle.words.specs.State.{State}
 use Rattle.written.specs.declared.writer.Writer.{Writer}
-use Rattle.systems.specs.Outline.{outline}
+use Rattle.systems.specs.Order.{outline}
 
 pub record Naming (s : State) (n : Names) : Type 0 where
   pub terms : n.terms.now ≡ s.term_words

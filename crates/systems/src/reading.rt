@@ -5,8 +5,10 @@ ghost use Rattle.relations.specs.Meaning.{has, has_all, has_row, assigned};
 ghost use Rattle.words.specs.Words.{pairs, plain, rows as stored_rows, row_at, meant, triples_in};
 ghost use Rattle.systems.specs.Read.{Naming, Reading, RowRead, RowsRead, CombinationsRead, Writing};
 ghost use Rattle.systems.specs.Held.{state, meant_by, at_side, Sized, Refused, CutAt, Barred};
-ghost use Rattle.relations.specs.Unmet.{met, first_unmet};
-ghost use Rattle.systems.specs.Outline.{outline, width, working, row_sum, coefficients, outlining};
+ghost use Rattle.relations.specs.Unmet.{met};
+ghost use Rattle.systems.specs.Verdict.{verdict};
+ghost use Rattle.systems.specs.Order.{outline};
+ghost use Rattle.systems.specs.Outline.{width, working, row_sum, coefficients, outlining, KeepsValue};
 
 use crate::rooms::{Counts, OutlineFault};
 use crate::store::{Part, place, takes};
@@ -17,6 +19,13 @@ use words::merge::{HandedRow, Sizes};
 use words::read::{Names, Reader, code_of, multiply_add};
 use words::scan::{Bounds, Combinations, Row, Rows, floor_of};
 use written::writer::Writer;
+
+/// What the kept values make of the rows: they meet them all, or the first that they do not meet has this number.
+#[derive(Clone, Copy)]
+pub enum Verdict {
+    Met,
+    Unmet(u32),
+}
 
 /// Where the combinations end and the terms of rows begin.
 pub(crate) struct Ends {
@@ -169,16 +178,16 @@ impl<'a, F: Field> Valued<'a, F> {
         multiply_add(p, a, b, 0) == reader.worth_stored(p, row.c)
     }
 
-    /// The number of the first row that the kept values do not meet.
-    pub fn first_unmet(&self) -> Option<u32>
-        ensures { result ≡ first_unmet F.Field.modulus (meant_by self.now) }
+    /// Whether the kept values meet all rows, or else the first that they do not meet.
+    pub fn verdict(&self) -> Verdict
+        ensures { result ≡ verdict F.Field.modulus (meant_by self.now) }
     {
         for i in 0..self.store.count {
             if !self.row_met(i) {
-                return Some(i as u32);
+                return Verdict::Unmet(i as u32);
             }
         }
-        None
+        Verdict::Met
     }
 
     // The terms, whose sums are written out.
@@ -206,12 +215,13 @@ impl<'a, F: Field> Valued<'a, F> {
     }
 
     /// Writes out one of the sums of a row, with each combination replaced by its terms: the coefficients of One, of the
-    /// inputs and of the witnesses, in this order. Where it fails `out` is as it was. What it leaves in the words of the
-    /// combinations' places is not said.
+    /// inputs and of the witnesses, in this order. Under each assignment they come to the sum's value. Where it fails `out` is
+    /// as it was. What it leaves in the words of the combinations' places is not said.
     pub fn coefficients(&self, row: usize, part: Part, out: &mut [u32]) -> Result<(), OutlineFault>
         ensures done { result ≡ outlining (length (meant_by self.now).rows) (working (state self.now)) row (length out.old) }
         ensures refused { OnErr result (out.new ≡ out.old) }
         ensures written { OnOk result (take (width (meant_by self.now)) out.new ≡ coefficients F.Field.modulus (meant_by self.now) (row_sum part row (meant_by self.now))) }
+        ensures keeps { OnOk result (KeepsValue F.Field.modulus (meant_by self.now) (row_sum part row (meant_by self.now)) out.new) }
         ensures beyond { OnOk result (drop (working (state self.now)) out.new ≡ drop (working (state self.now)) out.old) }
     {
         if row >= self.store.count {

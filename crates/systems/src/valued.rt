@@ -1,6 +1,7 @@
 ghost use Rattle.std.specs.Prelude.{◌≡◌};
 ghost use Rattle.words.specs.State.{Fit};
-ghost use Rattle.systems.specs.Props.{fit_prop};
+ghost use Rattle.systems.specs.Order.{Ordered};
+ghost use Rattle.systems.specs.Props.{fit_prop, ordered_prop};
 ghost use Rattle.systems.specs.Stores.{beside};
 
 use crate::store::Store;
@@ -17,4 +18,5 @@ pub struct Valued<'a, F: Field> {
     pub(crate) of: PhantomData<F>,
     ghost prime: { store.modulus ≡ F.Field.modulus },
     ghost fit: { Fit (beside store values.now) } by { fit_prop (beside store values.now) },
+    ghost ordered: { Ordered (beside store values.now) } by { ordered_prop (beside store values.now) },
 }

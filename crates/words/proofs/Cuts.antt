@@ -175,7 +175,7 @@ pub triple_each : (ni nw ne : ℕ) (t : Triple) → triple_in ni nw ne t ≡ tru
 triple_each ni nw ne t e = let x = and_parts _ _ e in let y = and_parts _ _ x.1 in (x.0, y.0, y.1)
 
 -- what names only some names only more
-code_in_more : (i w e i' w' e' c : ℕ) → i ≤ i' → w ≤ w' → e ≤ e' → code_in i w e c ≡ true → code_in i' w' e' c ≡ true
+pub code_in_more : (i w e i' w' e' c : ℕ) → i ≤ i' → w ≤ w' → e ≤ e' → code_in i w e c ≡ true → code_in i' w' e' c ≡ true
 code_in_more i w e i' w' e' c a b d h = go (eqb (c % 8) 1) (eqb (c % 8) 2) (eqb (c % 8) 3) h
   where
     go : (x y z : Bool) → cond x (ltb (c / 8) i) (cond y (ltb (c / 8) w) (cond z (ltb (c / 8) e) true)) ≡ true → cond x (ltb (c / 8) i') (cond y (ltb (c / 8) w') (cond z (ltb (c / 8) e') true)) ≡ true

@@ -85,6 +85,12 @@ head_test p k end c ws ch t h = head_look c (map (combo p) (combinations k end w
 pub kept_test : (p k end c : ℕ) (ws : List ℕ) → Chain k end ws → Tagged p k end ws → c < end → kept_at c (map (combo p) (combinations k end ws)) ≡ cond (eqb (get_or ws (2 * c) 0 % 8) 4) (get_or ws (2 * c + 1) 0) 0
 kept_test p k end c ws ch t h = kept_look c (map (combo p) (combinations k end ws)) ∙ look_test 0 (λ x. number x.kept) (λ n. get_or ws (2 * n + 1) 0) p k end c ws (λ i n. refl) ch t h
 
+-- the value beside the heading at a place, where one combination stands behind others
+pub kept_snoc : (c : ℕ) (xs : List Combo) (s : Combo) → kept_at c (xs ++ (s ∷ [])) ≡ cond (ltb c (places xs)) (kept_at c xs) (cond (eqb (c - places xs) s.sum.size) (number s.kept) 0)
+kept_snoc c xs s =
+    kept_look c (xs ++ (s ∷ [])) ∙ look_snoc 0 (λ x. number x.kept) c xs s
+    ∙ ap (λ (n : ℕ). cond (ltb c (places xs)) n (cond (eqb (c - places xs) s.sum.size) (number s.kept) 0)) (sym (kept_look c xs))
+
 -- a heading stands below the end
 pub head_under : (c : ℕ) (xs : List Combo) → is_head c xs ≡ true → c < places xs
 head_under c [] e = let z : ◌≡◌ {A = ℕ} 0 1 = cc in absurd (omega arith)

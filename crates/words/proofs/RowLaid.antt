@@ -1,7 +1,7 @@
 -- A row written below a place.
-use Rattle.std.proofs.Common.{◌≡◌, ℕ, ◌+◌, ◌-◌, ◌*◌, ◌≤◌, List, length, get_or, sym, ap, ◌∙◌, subst, arith}
+use Rattle.std.proofs.Common.{◌≡◌, ℕ, ◌+◌, ◌-◌, ◌*◌, List, length, get_or, sym, ap, ◌∙◌, subst, arith}
 use Rattle.relations.specs.declared.term.Term.{Term}
-use Rattle.words.specs.Words.{pairs, PartsFit, Parts, Places, RowWritten, whole}
+use Rattle.words.specs.Words.{pairs, PartsFit, Parts, Places, whole}
 use Rattle.words.proofs.Frames.{pairs_same, Put}
 use Rattle.words.proofs.Storing.{Held}
 
@@ -30,21 +30,3 @@ places n back la lb lc rs q1 q2 qs x y z = record {
   where
     at : (i j v : ℕ) → i ≡ j → get_or qs j 0 ≡ v → get_or qs i 0 ≡ v
     at i j v e h = ap (λ (k : ℕ). get_or qs k 0) e ∙ h
-
-pub laid : (p n back la lb lc : ℕ) (a b c : List Term) (rs qs ws vs : List ℕ) → la + lb + lc ≤ back → Parts p back la lb lc a b c ws vs → Places n back la lb lc rs qs → RowWritten p n back (back - la - lb - lc) a b c rs qs ws vs
-laid p n back la lb lc a b c rs qs ws vs f x y = record {
-  rows_kept = y.kept;
-  terms_below = x.below;
-  terms_above = x.above;
-  placed = record {
-    a = omega (arith, y.a_start, y.a_long);
-    b = omega (arith, y.a_start, y.b_start, y.b_long);
-    c = omega (arith, y.b_start, y.c_start, y.c_long);
-    lowest = y.c_start;
-  };
-  holds = λ i. record {
-    a = ((λ t. pairs (y.a_start t) (y.a_long t) vs) ∙ x.a_holds) i;
-    b = ((λ t. pairs (y.b_start t) (y.b_long t) vs) ∙ x.b_holds) i;
-    c = ((λ t. pairs (y.c_start t) (y.c_long t) vs) ∙ x.c_holds) i;
-  };
-}

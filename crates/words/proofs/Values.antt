@@ -1,6 +1,7 @@
 -- A sum's value follows from its coefficients alone, whatever the order of its terms.
-use Rattle.std.proofs.Common.{◌≡◌, ℕ, zero, suc, ◌+◌, ◌*◌, ◌/◌, ◌%◌, ◌<◌, ◌≤◌, Bool, true, false, cond, eqb, List, [], ◌∷◌, length, sym, refl, ap, ◌∙◌, subst, inl, inr, mod-lt, mod-eq_of_lt, mul_assoc, add-mul, eq-or-lt_of_le, arith, eq-eqb, ne_eqb}
-use native.Mathlib.Nat.{add-mod, mod-mod, div-add-mod, mul-add-mod_self_left, zero-mod}
+use Rattle.std.proofs.Common.{◌≡◌, ℕ, zero, suc, ◌+◌, ◌*◌, ◌%◌, ◌<◌, ◌≤◌, Bool, true, false, cond, eqb, List, [], ◌∷◌, length, sym, refl, ap, ◌∙◌, subst, inl, inr, mod-lt, mod-eq_of_lt, add-mul, eq-or-lt_of_le, arith, eq-eqb, ne_eqb}
+use native.Mathlib.Nat.{add-mod, mod-mod, zero-mod}
+use Rattle.arith.proofs.Euclid.{mul_mod_l}
 use Rattle.relations.specs.declared.term.Term.{Term}
 use Rattle.relations.specs.Sum.{Pairs, handed, total, value, decode, code, sum_of, all_in}
 use Rattle.words.specs.Words.{plain, whole}
@@ -14,18 +15,11 @@ abbrev pub CodesBelow : ℕ → Pairs → Type 0
 CodesBelow n [] = Unit {0}
 CodesBelow n (t ∷ ts) = (t.0 < n) × CodesBelow n ts
 
-mul_mod_l : (a b p : ℕ) → ((a % p) * b) % p ≡ (a * b) % p
-mul_mod_l a b p =
-    let e : a * b ≡ p * (a / p * b) + a % p * b =
-    ap (λ (t : ℕ). t * b) (sym (div-add-mod a p)) ∙ add-mul (p * (a / p)) (a % p) b ∙ ap (λ (t : ℕ). t + a % p * b) (mul_assoc p (a / p) b)
-    in
-    sym (ap (λ (t : ℕ). t % p) e ∙ mul-add-mod_self_left p (a / p * b) (a % p * b))
-
 -- equal remainders may stand for one another in a sum
-left : (p a b c : ℕ) → a % p ≡ b % p → (a + c) % p ≡ (b + c) % p
+pub left : (p a b c : ℕ) → a % p ≡ b % p → (a + c) % p ≡ (b + c) % p
 left p a b c e = add-mod a c p ∙ ap (λ (x : ℕ). (x + c % p) % p) e ∙ sym (add-mod b c p)
 
-right : (p a b c : ℕ) → a % p ≡ b % p → (c + a) % p ≡ (c + b) % p
+pub right : (p a b c : ℕ) → a % p ≡ b % p → (c + a) % p ≡ (c + b) % p
 right p a b c e = add-mod c a p ∙ ap (λ (x : ℕ). (c % p + x) % p) e ∙ sym (add-mod c b p)
 
 total_from : (p a : ℕ) (ts : Pairs) (c : ℕ) → a < p → total p a ts c ≡ (a + total p 0 ts c) % p
@@ -55,35 +49,36 @@ total_from p a (t ∷ ts) c h = go (eqb t.0 c) (λ x l. total_from p x ts c l)
         shift x y z = omega arith
 
 -- one more term changes one coefficient
-total_here : (p k : ℕ) (ts : Pairs) (d : ℕ) → 0 < p → total p 0 ((d, k) ∷ ts) d ≡ (k + total p 0 ts d) % p
-total_here p k ts d h =
-    ap (λ (b : Bool). total p (cond b ((0 + k) % p) 0) ts d) (eq-eqb d d refl)
-    ∙ total_from p ((0 + k) % p) ts d (mod-lt (0 + k) h)
-    ∙ left p ((0 + k) % p) (0 + k) (total p 0 ts d) (mod-mod (0 + k) p)
-    ∙ ap (λ (x : ℕ). (x + total p 0 ts d) % p) (zero_plus k)
+pub total_here : (p k : ℕ) (ts : Pairs) (d c : ℕ) → 0 < p → d ≡ c → total p 0 ((d, k) ∷ ts) c ≡ (k + total p 0 ts c) % p
+total_here p k ts d c h e =
+    ap (λ (b : Bool). total p (cond b ((0 + k) % p) 0) ts c) (eq-eqb d c e)
+    ∙ total_from p ((0 + k) % p) ts c (mod-lt (0 + k) h)
+    ∙ left p ((0 + k) % p) (0 + k) (total p 0 ts c) (mod-mod (0 + k) p)
+    ∙ ap (λ (x : ℕ). (x + total p 0 ts c) % p) (zero_plus k)
   where
     zero_plus : (n : ℕ) → 0 + n ≡ n
     zero_plus n = omega arith
 
-total_there : (p k : ℕ) (ts : Pairs) (d c : ℕ) → (d ≡ c → ⊥) → total p 0 ((d, k) ∷ ts) c ≡ total p 0 ts c
+pub total_there : (p k : ℕ) (ts : Pairs) (d c : ℕ) → (d ≡ c → ⊥) → total p 0 ((d, k) ∷ ts) c ≡ total p 0 ts c
 total_there p k ts d c ne = ap (λ (b : Bool). total p (cond b ((0 + k) % p) 0) ts c) (ne_eqb d c ne)
 
--- sums that differ at one place
-sum_same : (n : ℕ) (f g : ℕ → ℕ) → ((c : ℕ) → c < n → g c ≡ f c) → sum_to n g ≡ sum_to n f
+-- sums that are the same at each place
+pub sum_same : (n : ℕ) (f g : ℕ → ℕ) → ((j : ℕ) → j < n → f j ≡ g j) → sum_to n f ≡ sum_to n g
 sum_same zero f g e = refl
-sum_same (suc n) f g e = λ i. sum_same n f g (λ c h. e c (omega arith)) i + e n (omega arith) i
+sum_same (suc n) f g e = λ i. sum_same n f g (λ j h. e j (omega arith)) i + e n (omega arith) i
 
-sum_update : (p n : ℕ) (f g : ℕ → ℕ) (d x : ℕ) → d < n → ((c : ℕ) → (d ≡ c → ⊥) → g c ≡ f c) → g d % p ≡ (x + f d) % p → sum_to n g % p ≡ (x + sum_to n f) % p
+-- sums that differ at one place
+pub sum_update : (p n : ℕ) (f g : ℕ → ℕ) (d x : ℕ) → d < n → ((j : ℕ) → j < n → (d ≡ j → ⊥) → g j ≡ f j) → g d % p ≡ (x + f d) % p → sum_to n g % p ≡ (x + sum_to n f) % p
 sum_update p zero f g d x h e u = absurd (omega arith)
 sum_update p (suc n) f g d x h e u =
     elim (eq-or-lt_of_le {n = d} {m = n} (omega arith)) [
       | inl q ↦
-          ap (λ (y : ℕ). (y + g n) % p) (sum_same n f g (λ c l. e c (λ z. omega arith)))
+          ap (λ (y : ℕ). (y + g n) % p) (sum_same n g f (λ j l. e j (omega arith) (λ z. omega arith)))
           ∙ right p (g n) (x + f n) (sum_to n f) (subst (λ (y : ℕ). g y % p ≡ (x + f y) % p) q u)
           ∙ ap (λ (y : ℕ). y % p) (swap (sum_to n f) x (f n))
       | inr l ↦
-          ap (λ (y : ℕ). (sum_to n g + y) % p) (e n (λ z. omega arith))
-          ∙ left p (sum_to n g) (x + sum_to n f) (f n) (sum_update p n f g d x l e u)
+          ap (λ (y : ℕ). (sum_to n g + y) % p) (e n (omega arith) (λ z. omega arith))
+          ∙ left p (sum_to n g) (x + sum_to n f) (f n) (sum_update p n f g d x l (λ j b. e j (omega arith)) u)
           ∙ ap (λ (y : ℕ). y % p) (group x (sum_to n f) (f n))
     ]
   where
@@ -102,15 +97,15 @@ value_is p n a [] h b = sym (ap (λ (x : ℕ). x % p) (none n) ∙ zero-mod p)
 value_is p n a (t ∷ ts) h b =
     right p (value p a ts) (sum_to n (λ c. total p 0 ts c * a c)) (t.1 * a t.0) (ap (λ (x : ℕ). x % p) (value_is p n a ts h b.1) ∙ mod-mod (sum_to n (λ c. total p 0 ts c * a c)) p)
     ∙ sym (sum_update p n (λ c. total p 0 ts c * a c) (λ c. total p 0 (t ∷ ts) c * a c) t.0 (t.1 * a t.0) b.0
-    (λ c ne. ap (λ (x : ℕ). x * a c) (total_there p t.1 ts t.0 c ne))
-    (ap (λ (x : ℕ). (x * a t.0) % p) (total_here p t.1 ts t.0 h)
+    (λ c l ne. ap (λ (x : ℕ). x * a c) (total_there p t.1 ts t.0 c ne))
+    (ap (λ (x : ℕ). (x * a t.0) % p) (total_here p t.1 ts t.0 t.0 h refl)
     ∙ mul_mod_l (t.1 + total p 0 ts t.0) (a t.0) p
     ∙ ap (λ (x : ℕ). x % p) (add-mul t.1 (total p 0 ts t.0) (a t.0))))
 
 -- so two lists with the same coefficients have the same value
 pub value_same : (p n : ℕ) (a : ℕ → ℕ) (ts us : Pairs) → 0 < p → CodesBelow n ts → CodesBelow n us → ((c : ℕ) → total p 0 ts c ≡ total p 0 us c) → value p a ts ≡ value p a us
 value_same p n a ts us h b d e =
-    value_is p n a ts h b ∙ ap (λ (x : ℕ). x % p) (sum_same n (λ c. total p 0 us c * a c) (λ c. total p 0 ts c * a c) (λ c l. ap (λ (x : ℕ). x * a c) (e c))) ∙ sym (value_is p n a us h d)
+    value_is p n a ts h b ∙ ap (λ (x : ℕ). x % p) (sum_same n (λ c. total p 0 ts c * a c) (λ c. total p 0 us c * a c) (λ c l. ap (λ (x : ℕ). x * a c) (e c))) ∙ sym (value_is p n a us h d)
 
 -- every list has a bound of its codes
 abbrev bound : Pairs → ℕ

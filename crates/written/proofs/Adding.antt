@@ -1,8 +1,9 @@
 -- Adding multiples of terms to coefficients.
-use Rattle.std.proofs.Common.{◌≡◌, ℕ, ◌+◌, ◌-◌, ◌*◌, ◌/◌, ◌%◌, ◌<◌, ◌≤◌, Bool, true, false, cond, eqb, List, [], ◌∷◌, ◌++◌, length, get_or, set, take, drop, replicate, Some, sym, refl, ap, ◌∙◌, subst, inl, inr, mod-lt, mod-eq_of_lt, mul_assoc, mul_comm, one-mul, mul-add, arith, get_or-set_other, get_or-set_same, eq-eqb, ne_eqb}
-use native.Mathlib.Nat.{add-mod-mod, div-add-mod, mul-add-mod_self_left}
+use Rattle.std.proofs.Common.{◌≡◌, ℕ, ◌+◌, ◌-◌, ◌*◌, ◌%◌, ◌<◌, ◌≤◌, Bool, true, false, cond, eqb, List, [], ◌∷◌, ◌++◌, length, get_or, set, take, drop, replicate, Some, sym, refl, ap, ◌∙◌, subst, inl, inr, mod-lt, mod-eq_of_lt, one-mul, mul-add, arith, get_or-set_other, get_or-set_same, eq-eqb, ne_eqb}
+use native.Mathlib.Nat.{add-mod-mod}
 use Rattle.std.proofs.lemmas.List.{take_more, get_or_append_left, get_or-append_right, get_or-replicate, get_or-drop, length-replicate}
 use Rattle.std.proofs.lemmas.Bool.{cond-true, cond-false, cases_eq}
+use Rattle.arith.proofs.Euclid.{mul_mod_r}
 use Rattle.relations.specs.Sum.{Pairs, code, total}
 use Rattle.words.specs.Words.{stored}
 use Rattle.words.proofs.Worths.{stored_last}
@@ -44,14 +45,6 @@ added_some p n k c x m os qs e long q = record {
 total_push : (p a : ℕ) (ts : Pairs) (d x c : ℕ) → total p a (ts ++ ((d, x) ∷ [])) c ≡ cond (eqb d c) ((total p a ts c + x) % p) (total p a ts c)
 total_push p a [] d x c = refl
 total_push p a (t ∷ ts) d x c = total_push p (cond (eqb t.0 c) ((a + t.1) % p) a) ts d x c
-
-pub mul_mod_r : (k y p : ℕ) → (k * (y % p)) % p ≡ (k * y) % p
-mul_mod_r k y p =
-    let e : k * y ≡ p * (k * (y / p)) + k * (y % p) =
-    ap (λ (t : ℕ). k * t) (sym (div-add-mod y p)) ∙ mul-add k (p * (y / p)) (y % p)
-    ∙ ap (λ (t : ℕ). t + k * (y % p)) (sym (mul_assoc k p (y / p)) ∙ ap (λ (t : ℕ). t * (y / p)) (mul_comm k p) ∙ mul_assoc p k (y / p))
-    in
-    sym (ap (λ (t : ℕ). t % p) e ∙ mul-add-mod_self_left p (k * (y / p)) (k * (y % p)))
 
 pub times_rem : (p a k y : ℕ) → (a + k * (y % p)) % p ≡ (a + k * y) % p
 times_rem p a k y = sym (add-mod-mod a (k * (y % p)) p) ∙ ap (λ (t : ℕ). (a + t) % p) (mul_mod_r k y p) ∙ add-mod-mod a (k * y) p

@@ -2,6 +2,7 @@
 use Rattle.std.proofs.Common.{◌≡◌, ℕ, zero, suc, ◌+◌, ◌-◌, ◌*◌, ◌/◌, ◌%◌, ◌<◌, ◌≤◌, Bool, true, false, cond, eqb, ltb, List, [], ◌∷◌, length, get_or, Some, None, Option, sym, refl, ap, ◌∙◌, mul_assoc, add-mul, mul-zero, arith, ltb-false, ltb-true, eq-eqb, ne_eqb}
 use native.Mathlib.Nat.{mod-mod, zero-mod}
 use Rattle.std.proofs.lemmas.Bool.{cond-true, cond-false, eqb-true, eqb-false}
+use Rattle.arith.proofs.Euclid.{mul_mod_l}
 use Rattle.relations.specs.declared.term.Variable.{Variable}
 use Rattle.relations.specs.declared.term.Variable.TheVariants.{One, Input, Witness, Combination}
 use Rattle.relations.specs.Sum.{Pairs, code, decode, code_in, total, value}
@@ -9,14 +10,14 @@ use Rattle.relations.specs.Meaning.{Combo, places}
 use Rattle.relations.specs.Written.{expanded}
 use Rattle.words.specs.Words.{pairs, heading, Chain}
 use Rattle.words.proofs.Frames.{length_pairs}
-use Rattle.words.proofs.Values.{sum_to}
+use Rattle.words.proofs.Values.{sum_to, right, sum_same, sum_update, total_here, total_there}
 use Rattle.written.specs.declared.Counts.{Counts}
 use Rattle.written.specs.Cells.{cells, variable_at, cell, written_out, Over}
 use Rattle.written.specs.Keeps.{up_to, Named, Earlier, Given, Gives, Keeps}
 use Rattle.written.proofs.Cells.{Found, found, cell_code, at_combination}
 use Rattle.written.proofs.Adding.{times_rem}
 use Rattle.written.proofs.Going.{older, older_more, older_places}
-use Rattle.written.proofs.Sums.{mul_mod_l, right, sum_same, sum_mod, sum_plus, sum_zeros, sum_update, total_here, total_there}
+use Rattle.written.proofs.Sums.{sum_mod, sum_plus, sum_zeros}
 
 -- the coefficients f, each times what ρ gives its variable, summed over the cells
 abbrev pub weighed : Counts → (Variable → ℕ) → (Variable → ℕ) → ℕ
@@ -32,13 +33,13 @@ has_cell n c = go (eqb (c % 8) 1) (eqb (c % 8) 2) (eqb (c % 8) 3)
     go false false true h r = (1 + n.inputs + n.witnesses + c / 8, cond-true _ _ _ h)
     go false false false h r = (0, cond-true _ _ _ (eq-eqb c 0 (sym r)))
 
-decode_input : (k : ℕ) → decode (8 * k + 1) ≡ Input k
+pub decode_input : (k : ℕ) → decode (8 * k + 1) ≡ Input k
 decode_input k = cond-true _ _ _ (eq-eqb ((8 * k + 1) % 8) 1 (omega arith)) ∙ ap Input same
   where
     same : (8 * k + 1) / 8 ≡ k
     same = omega arith
 
-decode_witness : (k : ℕ) → decode (8 * k + 2) ≡ Witness k
+pub decode_witness : (k : ℕ) → decode (8 * k + 2) ≡ Witness k
 decode_witness k =
     cond-false _ _ _ (ne_eqb ((8 * k + 2) % 8) 1 (λ z. omega arith))
     ∙ cond-true _ _ _ (eq-eqb ((8 * k + 2) % 8) 2 (omega arith))
@@ -47,7 +48,7 @@ decode_witness k =
     same : (8 * k + 2) / 8 ≡ k
     same = omega arith
 
-decode_combination : (k : ℕ) → decode (8 * k + 3) ≡ Combination k
+pub decode_combination : (k : ℕ) → decode (8 * k + 3) ≡ Combination k
 decode_combination k =
     cond-false _ _ _ (ne_eqb ((8 * k + 3) % 8) 1 (λ z. omega arith))
     ∙ cond-false _ _ _ (ne_eqb ((8 * k + 3) % 8) 2 (λ z. omega arith))

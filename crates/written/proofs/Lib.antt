@@ -3,4 +3,3 @@ pub mod Adding
 pub mod Going
 pub mod Sums
 pub mod Keeps
-pub mod Rows

@@ -5,7 +5,7 @@ use Rattle.relations.specs.declared.term.Variable.TheVariants.{One, Input, Witne
 use Rattle.relations.specs.Sum.{Pairs, code, total}
 use Rattle.relations.specs.Meaning.{Combo}
 use Rattle.relations.specs.Written.{expanded}
-use Rattle.words.specs.Words.{pairs, plain, combo, combinations, Chain}
+use Rattle.words.specs.Words.{pairs, plain, combo, combinations}
 use Rattle.written.specs.declared.Counts.{Counts}
 
 -- how many cells there are
@@ -61,11 +61,6 @@ pub record Lies (start len : ℕ) (ws : List ℕ) : Type 0 where
   pub long : 2 * (start + len) ≤ length ws
   pub limit : start + len ≤ 65536
 
--- the combinations fill the places below the front, and these lie in the words
-pub record Chained (n : Counts) (ws : List ℕ) : Type 0 where
-  pub chain : Chain n.lcs n.front ws
-  pub long : 2 * n.front ≤ length ws
-
 -- the combinations that stand in the words, the newest first
 abbrev pub newest_first : ℕ → Counts → List ℕ → List Combo
 newest_first p n ws = reverse (map (combo p) (combinations n.lcs n.front ws))
@@ -73,13 +68,6 @@ newest_first p n ws = reverse (map (combo p) (combinations n.lcs n.front ws))
 -- the coefficients, written out, of the sum of `len` stored terms from place `start` on
 abbrev pub written_out : ℕ → Counts → ℕ → ℕ → List ℕ → Variable → ℕ
 written_out p n start len ws = expanded p (plain p (pairs start len ws)).at (newest_first p n ws)
-
--- what writing a sum out asks for: nothing is asked of what the terms name
-pub record Readable (p : ℕ) (n : Counts) (start len : ℕ) (ws : List ℕ) : Type 0 where
-  pub modulus : 0 < p
-  pub small : Small n
-  pub combos : Chained n ws
-  pub terms : Lies start len ws
 
 -- what it leaves: the coefficients f of One, of each input and of each witness, and what stood beyond the cells;
 -- the cells of the combinations were only worked in

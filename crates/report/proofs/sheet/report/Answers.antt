@@ -15,5 +15,5 @@ returns g c =
     let long = length-map m.rows (sums_of p m) in
     let second : string_bytes c.push_counts.new.text ≡ string_bytes c.push_refusals.new.text ++ counts_text page.inputs page.witnesses (length page.rows) = cc (c.in_ok-push_counts.ensures, said.inputs, said.witnesses, said.rows ∙ sym long) in
     let third : string_bytes c.push_rows.new.text ≡ string_bytes c.push_counts.new.text ++ rows_text page.inputs page.rows = cc (c.in_ok-push_rows.ensures, c.in_ok-new.ensures) in
-    let fourth : string_bytes c.push_verdict.new.text ≡ string_bytes c.push_rows.new.text ++ verdict_text page.unmet = cc (c.in_ok-push_verdict.ensures, c.first_unmet.ensures) in
+    let fourth : string_bytes c.push_verdict.new.text ≡ string_bytes c.push_rows.new.text ++ verdict_text page.verdict = cc (c.in_ok-push_verdict.ensures, c.verdict.ensures) in
     whole _ _ _ _ _ _ _ _ _ c.new-text.ensures.bytes c.in_ok-push_refusals.ensures second third fourth

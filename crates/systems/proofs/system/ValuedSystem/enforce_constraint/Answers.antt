@@ -1,11 +1,13 @@
-use Rattle.std.proofs.Common.{◌≡◌, ℕ, ◌+◌, ◌-◌, Ok, Err, refl, ap, ◌∙◌, subst, arith}
+use Rattle.std.proofs.Common.{◌≡◌, ℕ, ◌+◌, ◌-◌, Ok, Err, refl, sym, ap, ◌∙◌, subst, arith}
 use Rattle.relations.specs.declared.fault.SystemFault.TheVariants.{RowsFull}
 use Rattle.relations.specs.Meaning.{enforce}
 use Rattle.words.specs.State.{State, with_row}
 use Rattle.systems.specs.Held.{state, Sized}
+use Rattle.systems.specs.Order.{Ordered}
 use Rattle.systems.specs.Stores.{beside}
 use Rattle.systems.proofs.Views.{has_small}
 use Rattle.systems.proofs.Grown.{Done, moved}
+use Rattle.systems.proofs.Order.{row_ordered}
 use Rattle.systems.proofs.Calls.{row_full, row_new}
 use Rattle.systems.proofs.system.ValuedSystem.enforce_constraint.Goals as goal
 
@@ -36,7 +38,11 @@ invariant_of-self g c =
     let d : Done (enforce g.F.Field.modulus c.args.a.now c.args.b.now c.args.c.now) s (Ok tt) (beside c.add_row.new.self c.args.self.now.values.now) =
     moved (λ p. enforce p c.args.a.now c.args.b.now c.args.c.now) g.F.Field.modulus s (beside c.add_row.new.self c.args.self.now.values.now) (with_row s low c.add_row.new.self.rows.now c.add_row.new.self.terms.now) (Ok tt) c.args.self.now.prime (x.rest c.args.self.now.values.now)
     (row_new s c.args.a.now c.args.b.now c.args.c.now c.in_ok-sizes.sizes.a c.in_ok-sizes.sizes.b c.in_ok-sizes.sizes.c low c.add_row.new.self.rows.now c.add_row.new.self.terms.now c.args.self.now.fit z c.if-self.false sum x.rows_long x.terms_long x.written) in
-    record { prime = ap (λ (t : State). t.modulus) (x.rest c.args.self.now.values.now) ∙ c.args.self.now.prime; fit = d.fit }
+    record {
+      prime = ap (λ (t : State). t.modulus) (x.rest c.args.self.now.values.now) ∙ c.args.self.now.prime;
+      fit = d.fit;
+      ordered = subst Ordered (sym (x.rest c.args.self.now.values.now)) (row_ordered s c.args.a.now c.args.b.now c.args.c.now c.in_ok-sizes.sizes.a c.in_ok-sizes.sizes.b c.in_ok-sizes.sizes.c low c.add_row.new.self.rows.now c.add_row.new.self.terms.now c.args.self.now.fit z sum x.written c.args.self.now.ordered);
+    }
 
 pub returns : goal.returns
 returns g c =

@@ -1,5 +1,5 @@
 use Rattle.systems.specs.Held.{state}
-use Rattle.systems.proofs.Unmet.{row_judged, row_missing}
+use Rattle.systems.proofs.Verdicts.{row_judged, row_missing}
 use Rattle.systems.proofs.system.ValuedSystem.is_met.Goals as goal
 
 pub returns-then-i-self : goal.returns-then-i-self

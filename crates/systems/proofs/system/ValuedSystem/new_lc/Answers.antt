@@ -5,9 +5,11 @@ use Rattle.relations.specs.Meaning.{new_lc}
 use Rattle.words.specs.State.{State, with_lc}
 use Rattle.words.proofs.Areas.{chain_count}
 use Rattle.systems.specs.Held.{state}
+use Rattle.systems.specs.Order.{Ordered}
 use Rattle.systems.specs.Stores.{beside}
 use Rattle.systems.proofs.Views.{has_small}
 use Rattle.systems.proofs.Grown.{Done, moved}
+use Rattle.systems.proofs.Order.{lc_ordered}
 use Rattle.systems.proofs.Calls.{lc_unknown, lc_full, lc_new}
 use Rattle.systems.proofs.system.ValuedSystem.new_lc.Goals as goal
 
@@ -44,7 +46,11 @@ invariant_of-self g c =
     let d : Done (new_lc g.F.Field.modulus c.args.terms.now) s (Ok (Combination (s.front + n))) (beside c.add_combination.new.self c.args.self.now.values.now) =
     moved (λ p. new_lc p c.args.terms.now) g.F.Field.modulus s (beside c.add_combination.new.self c.args.self.now.values.now) (with_lc s n c.add_combination.new.self.terms.now) (Ok (Combination (s.front + n))) c.args.self.now.prime (x.rest c.args.self.now.values.now)
     (lc_new s c.args.terms.now n c.worth-kept.result c.add_combination.new.self.terms.now c.args.self.now.fit c.if-not-has_all.ensures c.len-n.ensures c.if-n-self.false c.worth-kept.ensures.is c.worth-kept.ensures.below x.long x.written) in
-    record { prime = ap (λ (t : State). t.modulus) (x.rest c.args.self.now.values.now) ∙ c.args.self.now.prime; fit = d.fit }
+    record {
+      prime = ap (λ (t : State). t.modulus) (x.rest c.args.self.now.values.now) ∙ c.args.self.now.prime;
+      fit = d.fit;
+      ordered = subst Ordered (sym (x.rest c.args.self.now.values.now)) (lc_ordered s c.args.terms.now n c.worth-kept.result c.add_combination.new.self.terms.now c.args.self.now.fit c.if-not-has_all.ensures c.if-n-self.false x.written c.args.self.now.ordered);
+    }
 
 pub returns : goal.returns
 returns g c =

@@ -1,7 +1,7 @@
 use Rattle.std.proofs.Common.{ℕ, eqb, ap, ◌∙◌}
 use Rattle.systems.specs.Held.{state}
 use Rattle.systems.proofs.Readers.{named_in, row_named, worth_in}
-use Rattle.systems.proofs.Unmet.{met_is}
+use Rattle.systems.proofs.Verdicts.{met_is}
 use Rattle.systems.proofs.valued.Valued.row_met.Goals as goal
 
 pub worth_stored-a-requires-clause-there : goal.worth_stored-a-requires-clause-there
