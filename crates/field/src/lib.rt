@@ -4,7 +4,7 @@ ghost use Rattle.std.specs.Prelude.{◌≡◌, ℕ, ◌+◌, ◌-◌, ◌*◌, �
 ghost use Rattle.arith.specs.Number.{residue};
 ghost use Rattle.field.specs.Laws.{FieldLaws, OddPrime};
 ghost use Rattle.field.specs.Residues.{residue_laws};
-ghost use Rattle.field.specs.Primes.{prime_101};
+ghost use Rattle.field.specs.Primes.{prime_3, prime_7, prime_101, prime_4294967291};
 
 mod residue;
 
@@ -171,8 +171,30 @@ where
     }
 }
 
+impl IsPrime<3> for Residue<3> {
+    ghost vouched = { prime_3 };
+}
+
+impl IsPrime<7> for Residue<7> {
+    ghost vouched = { prime_7 };
+}
+
 impl IsPrime<101> for Residue<101> {
     ghost vouched = { prime_101 };
 }
 
+impl IsPrime<4294967291> for Residue<4294967291> {
+    ghost vouched = { prime_4294967291 };
+}
+
+/// The field of three elements, the smallest odd prime.
+pub type F3 = Residue<3>;
+
+/// The field of seven elements.
+pub type F7 = Residue<7>;
+
+/// The field of 101 elements.
 pub type F101 = Residue<101>;
+
+/// The field of the largest prime of 32 bits, 2^32 - 5.
+pub type F4294967291 = Residue<4294967291>;
