@@ -6,9 +6,11 @@ ghost use Rattle.field.specs.Laws.{FieldLaws, OddPrime};
 ghost use Rattle.field.specs.Residues.{residue_laws};
 ghost use Rattle.field.specs.Primes.{prime_3, prime_7, prime_101, prime_4294967291};
 
+mod modulus;
 mod residue;
 
 use euclid::{inverse_of, residue_of};
+pub use modulus::{bits, half};
 pub use residue::{Residue, Served};
 use std::marker::PhantomData;
 
