@@ -16,5 +16,8 @@ prime_7 = by_division 7 1 (lit< tt) (lit< tt) tt refl (lit< tt)
 pub prime_101 : OddPrime 101
 prime_101 = by_division 101 9 (lit< tt) (lit< tt) tt refl (lit< tt)
 
+pub prime_2013265921 : OddPrime 2013265921
+prime_2013265921 = by_division 2013265921 44868 (lit< tt) (lit< tt) tt refl (lit< tt)
+
 pub prime_4294967291 : OddPrime 4294967291
 prime_4294967291 = by_division 4294967291 65534 (lit< tt) (lit< tt) tt refl (lit< tt)

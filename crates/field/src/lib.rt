@@ -4,7 +4,7 @@ ghost use Rattle.std.specs.Prelude.{◌≡◌, ℕ, ◌+◌, ◌-◌, ◌*◌, �
 ghost use Rattle.arith.specs.Number.{residue};
 ghost use Rattle.field.specs.Laws.{FieldLaws, OddPrime};
 ghost use Rattle.field.specs.Residues.{residue_laws};
-ghost use Rattle.field.specs.Primes.{prime_3, prime_7, prime_101, prime_4294967291};
+ghost use Rattle.field.specs.Primes.{prime_3, prime_7, prime_101, prime_2013265921, prime_4294967291};
 
 mod modulus;
 mod residue;
@@ -184,6 +184,11 @@ impl IsPrime<7> for Served {
 
 impl IsPrime<101> for Served {
     ghost vouched = { prime_101 };
+}
+
+// The form of this prime that is served is Montgomery's, in a crate above this one.
+impl IsPrime<2013265921> for Served {
+    ghost vouched = { prime_2013265921 };
 }
 
 impl IsPrime<4294967291> for Served {
