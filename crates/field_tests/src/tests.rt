@@ -38,34 +38,45 @@ fn reads_at_the_ends<F: Field>(rt: &impl Abort, known: &Known) {
     assert!(rt; !F::one().is_zero());
 }
 
-// Sums, differences, negatives, doubles and products of 0, 1, p - 1, h and h + 1.
-fn operates_at_the_ends<F: Field>(rt: &impl Abort, known: &Known) {
-    let zero = F::zero();
-    let one = F::one();
+// Sums and doubles of 1, p - 1, h and h + 1.
+fn adds_at_the_ends<F: Field>(rt: &impl Abort, known: &Known) {
     let top = F::from_number(known.prime - 1);
     let half = F::from_number(known.half);
     let next = F::from_number(known.half + 1);
-    assert_eq!(rt; top.to_number(), known.prime - 1);
-    assert!(rt; top.add(one).is_zero());
+    assert!(rt; top.add(F::one()).is_zero());
     assert_eq!(rt; top.add(top).to_number(), known.prime - 2);
+    assert_eq!(rt; top.double().to_number(), known.prime - 2);
     assert_eq!(rt; half.add(half).to_number(), known.prime - 1);
+    assert_eq!(rt; half.double().to_number(), known.prime - 1);
     assert!(rt; half.add(next).is_zero());
     assert_eq!(rt; next.add(next).to_number(), 1);
-    assert_eq!(rt; zero.sub(one).to_number(), known.prime - 1);
-    assert_eq!(rt; one.sub(top).to_number(), 2);
+    assert_eq!(rt; next.double().to_number(), 1);
+    assert!(rt; F::zero().double().is_zero());
+}
+
+// Differences and negatives of 0, 1, p - 1, h and h + 1.
+fn subtracts_at_the_ends<F: Field>(rt: &impl Abort, known: &Known) {
+    let top = F::from_number(known.prime - 1);
+    let half = F::from_number(known.half);
+    let next = F::from_number(known.half + 1);
+    assert_eq!(rt; F::zero().sub(F::one()).to_number(), known.prime - 1);
+    assert_eq!(rt; F::one().sub(top).to_number(), 2);
     assert!(rt; top.sub(top).is_zero());
     assert_eq!(rt; half.sub(next).to_number(), known.prime - 1);
-    assert!(rt; zero.neg().is_zero());
+    assert!(rt; F::zero().neg().is_zero());
     assert_eq!(rt; top.neg().to_number(), 1);
     assert_eq!(rt; half.neg().to_number(), known.half + 1);
-    assert!(rt; zero.double().is_zero());
-    assert_eq!(rt; top.double().to_number(), known.prime - 2);
-    assert_eq!(rt; half.double().to_number(), known.prime - 1);
-    assert_eq!(rt; next.double().to_number(), 1);
+}
+
+// Products of 0, p - 1, h and h + 1.
+fn multiplies_at_the_ends<F: Field>(rt: &impl Abort, known: &Known) {
+    let top = F::from_number(known.prime - 1);
+    let half = F::from_number(known.half);
+    let next = F::from_number(known.half + 1);
     assert_eq!(rt; top.mul(top).to_number(), 1);
     assert_eq!(rt; top.mul(half).to_number(), known.half + 1);
     assert_eq!(rt; next.mul(top).to_number(), known.half);
-    assert!(rt; top.mul(zero).is_zero());
+    assert!(rt; top.mul(F::zero()).is_zero());
 }
 
 // The inverse of an element; an error where it has none.
@@ -94,7 +105,9 @@ fn inverts_at_the_ends<F: Field>(rt: &impl Abort, known: &Known) -> Result<(), F
 
 fn holds_at_the_ends<F: Field>(rt: &impl Abort, known: &Known) -> Result<(), Fail> {
     reads_at_the_ends::<F>(rt, known);
-    operates_at_the_ends::<F>(rt, known);
+    adds_at_the_ends::<F>(rt, known);
+    subtracts_at_the_ends::<F>(rt, known);
+    multiplies_at_the_ends::<F>(rt, known);
     inverts_at_the_ends::<F>(rt, known)
 }
 
