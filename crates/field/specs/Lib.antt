@@ -1,3 +1,4 @@
 pub mod Laws
 pub mod Residues
 pub mod Primes
+pub mod Modulus

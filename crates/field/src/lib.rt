@@ -1,15 +1,18 @@
 #![tactic(auto)]
 
-ghost use Rattle.std.specs.Prelude.{◌≡◌, ℕ, ◌+◌, ◌-◌, ◌*◌, ◌%◌, MatchOption, ◌==◌};
+ghost use Rattle.std.specs.Prelude.{◌≡◌, ℕ, ◌+◌, ◌-◌, ◌*◌, ◌%◌, ◌<◌, MatchOption, ◌==◌};
 ghost use Rattle.arith.specs.Number.{residue};
 ghost use Rattle.field.specs.Laws.{FieldLaws, OddPrime};
 ghost use Rattle.field.specs.Residues.{residue_laws};
-ghost use Rattle.field.specs.Primes.{prime_101};
+ghost use Rattle.field.specs.Primes.{prime_3, prime_7, prime_101, prime_2013265921, prime_4294967291};
 
+mod modulus;
 mod residue;
 
 use euclid::{inverse_of, residue_of};
-pub use residue::Residue;
+pub use modulus::{bits, half};
+pub use residue::{Residue, Served};
+use std::marker::PhantomData;
 
 // A field of a prime number of elements, each of which stands for a number below the prime.
 pub trait Field: Copy {
@@ -74,57 +77,59 @@ pub trait Field: Copy {
         ensures { MatchOption result (number self ≡ 0) (λ x. (number self * number x) % modulus ≡ 1) };
 }
 
-// An impl vouches that `P` is an odd prime. A further prime takes an impl here and a line in specs/Primes.antt.
+/// A type that gives its word for `P`: its impl proves that `P` is an odd prime. A further prime of this crate takes an impl for `Served` here and
+/// a line in specs/Primes.antt; a prime of another crate takes an impl there, for a type of that crate.
 pub trait IsPrime<const P: u32> {
     ghost vouched: { OddPrime P };
 }
 
-impl<const P: u32> Residue<P>
-where
-    Residue<P>: IsPrime<P>,
-{
-    // The remainder of a number.
-    fn reduced(n: u64) -> Residue<P>
-        ensures { result.code ≡ n % P }
+impl<const P: u32, By: IsPrime<P>> Residue<P, By> {
+    // The element that is stored as `code`.
+    fn of(code: u32) -> Residue<P, By>
+        requires { code < P }
+        ensures { result.code ≡ code }
     {
         Residue {
-            code: (n % P as u64) as u32,
+            code,
+            by: PhantomData,
         }
+    }
+
+    // The remainder of a number.
+    fn reduced(n: u64) -> Residue<P, By>
+        ensures { result.code ≡ n % P }
+    {
+        Residue::of((n % P as u64) as u32)
     }
 }
 
-impl<const P: u32> Field for Residue<P>
-where
-    Residue<P>: IsPrime<P>,
-{
+impl<const P: u32, By: IsPrime<P>> Field for Residue<P, By> {
     ghost modulus = { P };
 
     ghost number = { λ x. x.code };
 
     ghost coded = { λ x. x.code };
 
-    ghost laws = { residue_laws P ⟦<Residue<P> as IsPrime<P>>⟧.vouched };
+    ghost laws = { residue_laws P By By.vouched };
 
     fn characteristic() -> u32 {
         P
     }
 
-    fn zero() -> Residue<P> {
-        Residue { code: 0 }
+    fn zero() -> Residue<P, By> {
+        Residue::of(0)
     }
 
-    fn one() -> Residue<P> {
-        Residue { code: 1 }
+    fn one() -> Residue<P, By> {
+        Residue::of(1)
     }
 
-    fn from_number(n: u32) -> Residue<P> {
+    fn from_number(n: u32) -> Residue<P, By> {
         Residue::reduced(n as u64)
     }
 
-    fn from_i64(v: i64) -> Residue<P> {
-        Residue {
-            code: residue_of(v, P),
-        }
+    fn from_i64(v: i64) -> Residue<P, By> {
+        Residue::of(residue_of(v, P))
     }
 
     fn to_number(self) -> u32 {
@@ -140,39 +145,64 @@ where
         self.to_number() == 0
     }
 
-    fn add(self, other: Residue<P>) -> Residue<P> {
+    fn add(self, other: Residue<P, By>) -> Residue<P, By> {
         Residue::reduced(self.code as u64 + other.code as u64)
     }
 
-    fn sub(self, other: Residue<P>) -> Residue<P> {
+    fn sub(self, other: Residue<P, By>) -> Residue<P, By> {
         Residue::reduced(self.code as u64 + (P - other.code) as u64)
     }
 
-    fn mul(self, other: Residue<P>) -> Residue<P> {
+    fn mul(self, other: Residue<P, By>) -> Residue<P, By> {
         Residue::reduced(self.code as u64 * other.code as u64)
     }
 
-    fn neg(self) -> Residue<P> {
+    fn neg(self) -> Residue<P, By> {
         Residue::reduced((P - self.code) as u64)
     }
 
-    fn double(self) -> Residue<P> {
+    fn double(self) -> Residue<P, By> {
         Residue::reduced(2 * self.code as u64)
     }
 
-    fn inverse(self) -> Option<Residue<P>> {
+    fn inverse(self) -> Option<Residue<P, By>> {
         if self.code == 0 {
             None
         } else {
-            Some(Residue {
-                code: inverse_of(self.code, P),
-            })
+            Some(Residue::of(inverse_of(self.code, P)))
         }
     }
 }
 
-impl IsPrime<101> for Residue<101> {
+impl IsPrime<3> for Served {
+    ghost vouched = { prime_3 };
+}
+
+impl IsPrime<7> for Served {
+    ghost vouched = { prime_7 };
+}
+
+impl IsPrime<101> for Served {
     ghost vouched = { prime_101 };
 }
 
+// The form of this prime that is served is Montgomery's, in a crate above this one.
+impl IsPrime<2013265921> for Served {
+    ghost vouched = { prime_2013265921 };
+}
+
+impl IsPrime<4294967291> for Served {
+    ghost vouched = { prime_4294967291 };
+}
+
+/// The field of three elements, the smallest odd prime.
+pub type F3 = Residue<3>;
+
+/// The field of seven elements.
+pub type F7 = Residue<7>;
+
+/// The field of 101 elements.
 pub type F101 = Residue<101>;
+
+/// The field of the largest prime of 32 bits, 2^32 - 5.
+pub type F4294967291 = Residue<4294967291>;

@@ -1,0 +1,44 @@
+#!/usr/bin/env bash
+# bench/field.sh [COUNT]   times products modulo 2013265921: as plain remainders and in Montgomery's form, by crates/field_bench and by bench/field.rs,
+# which is the same in Rust. It builds both (rt and rustc must be on the path), runs all in turn, seven times over, and prints the least time of each
+# as a ratio. COUNT products are made in each run, a hundred million if it is not given. It is no part of the gate.
+set -eu
+cd "$(dirname "$0")/.."
+count=${1:-100000000}
+work=$(mktemp -d)
+trap 'rm -rf "$work"' EXIT
+
+(cd crates/field_bench && rt run -- plain chain 4) >"$work/log" 2>&1 || { cat "$work/log" >&2; exit 1; }
+cp crates/field_bench/out/field_bench "$work/rattle"
+rustc --edition 2021 -C opt-level=3 -C target-cpu=x86-64-v2 -o "$work/rust" bench/field.rs
+
+# Runs one way once and keeps the least time, in milliseconds; the answers of both programs must agree.
+declare -A least
+once() {
+    local start end took answer
+    start=$(date +%s%N)
+    answer=$("$work/$1" "$2" "$3" "$count")
+    end=$(date +%s%N)
+    took=$(((end - start) / 1000000))
+    if [ -z "${least[$1 $2 $3]-}" ] || [ "$took" -lt "${least[$1 $2 $3]}" ]; then least[$1 $2 $3]=$took; fi
+    if [ -e "$work/$2-$3" ] && [ "$answer" != "$(cat "$work/$2-$3")" ]; then echo "$1 $answer: the other program says otherwise" >&2; exit 1; fi
+    printf '%s\n' "$answer" >"$work/$2-$3"
+}
+
+for _ in 1 2 3 4 5 6 7; do
+    for shape in chain lanes; do
+        for way in plain montgomery; do
+            for program in rattle rust; do once "$program" "$way" "$shape"; done
+        done
+    done
+done
+
+ratio() { awk -v a="$1" -v b="$2" 'BEGIN { printf "%.2f", a / b }'; }
+for shape in chain lanes; do
+    for program in rattle rust; do
+        echo "$shape, $program: plain takes $(ratio "${least[$program plain $shape]}" "${least[$program montgomery $shape]}") times as long as Montgomery"
+    done
+    for way in plain montgomery; do
+        echo "$shape, $way: Rattle takes $(ratio "${least[rattle $way $shape]}" "${least[rust $way $shape]}") times as long as Rust"
+    done
+done

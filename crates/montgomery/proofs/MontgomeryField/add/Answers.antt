@@ -1,0 +1,10 @@
+use Rattle.std.proofs.Common.{ap, ◌∙◌}
+use Rattle.arith.proofs.Bits.{pos_of_prime}
+use Rattle.montgomery.specs.Form.{number_of}
+use Rattle.montgomery.proofs.Reduction.{of_sum}
+use Rattle.montgomery.proofs.MontgomeryField.add.Goals as goal
+
+pub returns : goal.returns
+returns g c =
+    let back = g.By.IsMontgomery.back in
+    ap (number_of g.row.P back) c.settled.ensures ∙ of_sum g.row.P back c.args.self.code c.args.other.code (pos_of_prime g.By.IsPrime.vouched.prime)
