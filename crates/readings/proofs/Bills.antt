@@ -26,7 +26,7 @@ use Rattle.laws.specs.History.{Each}
 use Rattle.laws.specs.Bill.{takes_variable, takes_combination, takes_row, Next, names, charges}
 use Rattle.readings.specs.Readings.{NamesThere}
 use Rattle.readings.specs.Decision.{given, new_bill, not_bill, gate_bill, bill, real, Real}
-use Rattle.readings.proofs.BitLaws.{gate_call}
+use Rattle.bit_laws.proofs.BitLaws.{gate_call}
 use Rattle.readings.proofs.CommandLaws.{there_at}
 
 clash : {A : Type 0} → ◌≡◌ {A = Bool} false true → A

@@ -1,13 +1,8 @@
 -- The laws of the commands, whose operands are found in a book.
-use Rattle.std.proofs.Common.{◌≡◌, ℕ, zero, suc, ◌<◌, ◌≤◌, Bool, true, false, List, [], ◌∷◌, length, get_or, Some, None, Option, sym, refl, ◌∙◌, subst, arith}
+use Rattle.std.proofs.Common.{◌≡◌, ℕ, zero, suc, ◌<◌, ◌≤◌, Bool, true, false, List, [], ◌∷◌, length, get_or, sym, refl, ◌∙◌, subst, arith}
 use Rattle.arith.specs.Number.{Prime}
-use Rattle.relations.specs.declared.term.Variable.TheVariants.{One}
 use Rattle.relations.specs.Meaning.{number}
-use Rattle.relations.specs.Script.{Script, answer, refuse, allocate, combine, row, then}
-use Rattle.boolean.specs.declared.mode.AllocationMode.{AllocationMode}
-use Rattle.boolean.specs.declared.mode.AllocationMode.TheVariants.{Constant as as_constant, Input as as_input, Witness as as_witness}
-use Rattle.allocated.specs.declared.gate.Gate.{Gate}
-use Rattle.allocated.specs.declared.gate.Gate.TheVariants.{And, Or, Xor}
+use Rattle.relations.specs.Script.{Script, answer, then}
 use Rattle.boolean.specs.declared.bits.Boolean.{Boolean}
 use Rattle.boolean.specs.declared.bits.Boolean.TheVariants.{Constant, Var}
 use Rattle.allocated.specs.Gates.{bit, bit_number}
@@ -17,12 +12,14 @@ use Rattle.command.specs.declared.commands.Command.TheVariants.{Bit as BitComman
 use Rattle.command.specs.declared.answers.Answer.{Answer}
 use Rattle.command.specs.declared.answers.Answer.TheVariants.{Bit}
 use Rattle.command.specs.Answers.{mode_of, value_of, answer_at, bit_at, as_bit, action, action_script, command_script}
-use Rattle.laws.specs.Law.{Val, Goes, Law, There, Wider, Names, Sees, Below, Tidy, Steady, lists}
+use Rattle.laws.specs.Law.{Val, Goes, Law, There, Wider, Names, Sees, Tidy, Steady, lists}
 use Rattle.laws.specs.Runs.{Agree}
 use Rattle.laws.specs.History.{Each, Along}
-use Rattle.laws.proofs.Frame.{must_then, goes_then, Is, function_law, function_pure, law_on, law_one, sees_then, sees_names, tidy_then}
-use Rattle.readings.specs.Readings.{bit_number_of, number_of, numbers_of, OneReading, Reading, BoundedByKind, NamesThere}
-use Rattle.readings.proofs.BitLaws.{pair, flipped, tabled, Bits, gate_call, not_function, gate_function, New, new_law}
+use Rattle.laws.proofs.Frame.{must_then, goes_then, Is, function_law, function_pure, law_on, law_one, sees_then, sees_names, tidy_then, steady_then}
+use Rattle.readings.specs.Readings.{number_of, numbers_of, OneReading, Reading, BoundedByKind, NamesThere}
+use Rattle.bit_laws.specs.Bits.{bit_number_of, ThereBit}
+use Rattle.bit_laws.proofs.BitOrder.{HasOne, not_sees, new_sees, gate_sees, new_tidy, not_tidy, gate_tidy, new_steady, not_steady, gate_steady}
+use Rattle.bit_laws.proofs.BitLaws.{pair, flipped, tabled, Bits, gate_call, not_function, gate_function, New, new_law}
 
 -- ---- a gadget whose answer is another type's
 pub law_over : (p : ℕ) {In Out Out' X Y : Type 0} (at : Val → In → X) (of : Val → Out → Y) (of' : Val → Out' → Y) (f : Out → Out') → ((ρ : Val) (o : Out) → of' ρ (f o) ≡ of ρ o) → (g : In → Script Out)
@@ -88,9 +85,6 @@ pub law : (p : ℕ) → Prime p → 2 < p → (c : Command) → Law p (lists num
 law p P two c = law_one p numbers_of number_of (one_script p c) (Pre c) (OneReading c) (λ xs. Unit {0}) (computed c) (one_law p P two c)
 
 -- ---- what is named is there
-abbrev ThereBit : There → Boolean → Type 0
-ThereBit h b = NamesThere h (Bit b)
-
 wider_answer : (h k : There) → Wider h k → (o : Answer) → NamesThere h o → NamesThere k o
 wider_answer h k w (Bit (Constant b)) t = tt
 wider_answer h k w (Bit (Var a)) t = w a.variable t
@@ -102,37 +96,6 @@ there_at h (x ∷ bk) (suc a) e = there_at h bk a e.1
 
 there_bit : (h : There) (x : Answer) → NamesThere h x → ThereBit h (as_bit x)
 there_bit h (Bit b) t = t
-
--- One is always there
-abbrev pub HasOne : There → Type 0
-HasOne h = h One ≡ true
-
-not_sees : (p : ℕ) (h : There) → HasOne h → (a : Boolean) → ThereBit h a → Sees h (not_script p a) ThereBit
-not_sees p h o (Constant b) t = tt
-not_sees p h o (Var a) t = ((o, (t, tt)), λ h₁ w v e. e)
-
-new_sees : (p : ℕ) (h : There) → HasOne h → (m : AllocationMode) (v : Option Bool) → Sees h (alloc_script p m v) ThereBit
-new_sees p h o as_constant None = tt
-new_sees p h o as_constant (Some b) = tt
-new_sees p h o as_input v = (tt, λ h₁ w x e. ((w One o, (e, tt)), (e, tt), tt, e))
-new_sees p h o as_witness v = (tt, λ h₁ w x e. ((w One o, (e, tt)), (e, tt), tt, e))
-
-gate_sees : (g : Gate) (p : ℕ) (h : There) → HasOne h → (a b : Boolean) → ThereBit h a → ThereBit h b → Sees h (gate_call g p (a, b)) ThereBit
-gate_sees And p h o (Constant true) b ta tb = tb
-gate_sees And p h o (Constant false) b ta tb = tt
-gate_sees And p h o (Var a) (Constant true) ta tb = ta
-gate_sees And p h o (Var a) (Constant false) ta tb = tt
-gate_sees And p h o (Var a) (Var b) ta tb = ((ta, (tb, tt)), λ h₁ w x e. ((w a.variable ta, tt), (w b.variable tb, tt), (e, tt), e))
-gate_sees Or p h o (Constant true) b ta tb = tt
-gate_sees Or p h o (Constant false) b ta tb = tb
-gate_sees Or p h o (Var a) (Constant true) ta tb = tt
-gate_sees Or p h o (Var a) (Constant false) ta tb = ta
-gate_sees Or p h o (Var a) (Var b) ta tb = ((ta, (tb, tt)), λ h₁ w x e. ((w One o, (w a.variable ta, tt)), (w One o, (w b.variable tb, tt)), (w One o, (e, tt)), e))
-gate_sees Xor p h o (Constant true) b ta tb = not_sees p h o b tb
-gate_sees Xor p h o (Constant false) b ta tb = tb
-gate_sees Xor p h o (Var a) (Constant true) ta tb = not_sees p h o (Var a) ta
-gate_sees Xor p h o (Var a) (Constant false) ta tb = ta
-gate_sees Xor p h o (Var a) (Var b) ta tb = ((ta, (tb, tt)), λ h₁ w x e. ((w a.variable ta, tt), (w b.variable tb, tt), (w a.variable ta, (w b.variable tb, (e, tt))), e))
 
 as_answer : (p : ℕ) (h : There) (s : Script Boolean) → Sees h s ThereBit → Sees h (then s (λ b. answer (Bit b))) NamesThere
 as_answer p h s t = sees_then h s (λ b. answer (Bit b)) ThereBit NamesThere t (λ h₁ w b e. e)
@@ -156,46 +119,6 @@ local h ρ σ g (Bit (Var a)) t = g a.variable t
 pub wider : (h k : There) → Wider h k → (o : Answer) → NamesThere h o → NamesThere k o
 wider = wider_answer
 
--- ---- the values that are given are bits, and are there whatever was asked for
-bit_below : (p : ℕ) → 1 < p → (b : Bool) → bit b < p
-bit_below p above true = above
-bit_below p above false = omega arith
-
-new_tidy : (p : ℕ) → 1 < p → (m : AllocationMode) (v : Option Bool) → Tidy p (alloc_script p m v)
-new_tidy p above as_constant None = tt
-new_tidy p above as_constant (Some b) = tt
-new_tidy p above as_input v = ((λ ρ low. go v), λ x. tt)
-  where
-    go : (v : Option Bool) → Below p (bit_number v)
-    go None = tt
-    go (Some b) = bit_below p above b
-new_tidy p above as_witness v = ((λ ρ low. go v), λ x. tt)
-  where
-    go : (v : Option Bool) → Below p (bit_number v)
-    go None = tt
-    go (Some b) = bit_below p above b
-
-not_tidy : (p : ℕ) (a : Boolean) → Tidy p (not_script p a)
-not_tidy p (Constant b) = tt
-not_tidy p (Var a) = λ v. tt
-
-gate_tidy : (g : Gate) (p : ℕ) → 1 < p → (a b : Boolean) → Tidy p (gate_call g p (a, b))
-gate_tidy And p above (Constant true) b = tt
-gate_tidy And p above (Constant false) b = tt
-gate_tidy And p above (Var a) (Constant true) = tt
-gate_tidy And p above (Var a) (Constant false) = tt
-gate_tidy And p above (Var a) (Var b) = ((λ ρ low. bit_below p above _), λ v. tt)
-gate_tidy Or p above (Constant true) b = tt
-gate_tidy Or p above (Constant false) b = tt
-gate_tidy Or p above (Var a) (Constant true) = tt
-gate_tidy Or p above (Var a) (Constant false) = tt
-gate_tidy Or p above (Var a) (Var b) = ((λ ρ low. bit_below p above _), λ v. tt)
-gate_tidy Xor p above (Constant true) b = not_tidy p b
-gate_tidy Xor p above (Constant false) b = tt
-gate_tidy Xor p above (Var a) (Constant true) = λ v. tt
-gate_tidy Xor p above (Var a) (Constant false) = tt
-gate_tidy Xor p above (Var a) (Var b) = ((λ ρ low. bit_below p above _), λ v. tt)
-
 one_tidy : (p : ℕ) → 1 < p → (c : Command) (bk : List Answer) → Tidy p (one_script p c bk)
 one_tidy p above (BitCommand m v) bk = tidy_then p (alloc_script p (mode_of m) (value_of v)) (λ b. answer (Bit b)) (new_tidy p above (mode_of m) (value_of v)) (λ x. tt)
 one_tidy p above (Clone a) bk = tt
@@ -204,40 +127,6 @@ one_tidy p above (Gated g a b) bk = tidy_then p (gate_call g p (bit_at bk a, bit
 
 pub tidy : (p : ℕ) → 1 < p → (c : Command) (bk : List Answer) → Tidy p (command_script p c bk)
 tidy p above c bk = tidy_then p (one_script p c bk) (λ x. answer (x ∷ [])) (one_tidy p above c bk) (λ x. tt)
-
-steady_then : {A B : Type 0} (s : Script A) (k : A → Script B) → Steady s → ((x : A) → Steady (k x)) → Steady (then s k)
-steady_then (answer x) k h f = f x
-steady_then (refuse e) k h f = tt
-steady_then (allocate d vs g c) k h f = (h.0, λ v. steady_then (c v) k (h.1 v) f)
-steady_then (combine ts c) k h f = λ v. steady_then (c v) k (h v) f
-steady_then (row a b c s) k h f = steady_then s k h f
-
-new_steady : (p : ℕ) (m : AllocationMode) (v : Option Bool) → Steady (alloc_script p m v)
-new_steady p as_constant None = tt
-new_steady p as_constant (Some b) = tt
-new_steady p as_input v = ((λ ρ. refl), λ x. tt)
-new_steady p as_witness v = ((λ ρ. refl), λ x. tt)
-
-not_steady : (p : ℕ) (a : Boolean) → Steady (not_script p a)
-not_steady p (Constant b) = tt
-not_steady p (Var a) = λ v. tt
-
-gate_steady : (g : Gate) (p : ℕ) (a b : Boolean) → Steady (gate_call g p (a, b))
-gate_steady And p (Constant true) b = tt
-gate_steady And p (Constant false) b = tt
-gate_steady And p (Var a) (Constant true) = tt
-gate_steady And p (Var a) (Constant false) = tt
-gate_steady And p (Var a) (Var b) = ((λ ρ. refl), λ v. tt)
-gate_steady Or p (Constant true) b = tt
-gate_steady Or p (Constant false) b = tt
-gate_steady Or p (Var a) (Constant true) = tt
-gate_steady Or p (Var a) (Constant false) = tt
-gate_steady Or p (Var a) (Var b) = ((λ ρ. refl), λ v. tt)
-gate_steady Xor p (Constant true) b = not_steady p b
-gate_steady Xor p (Constant false) b = tt
-gate_steady Xor p (Var a) (Constant true) = λ v. tt
-gate_steady Xor p (Var a) (Constant false) = tt
-gate_steady Xor p (Var a) (Var b) = ((λ ρ. refl), λ v. tt)
 
 one_steady : (p : ℕ) (c : Command) (bk : List Answer) → Steady (one_script p c bk)
 one_steady p (BitCommand m v) bk = steady_then (alloc_script p (mode_of m) (value_of v)) (λ b. answer (Bit b)) (new_steady p (mode_of m) (value_of v)) (λ x. tt)

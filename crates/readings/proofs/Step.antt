@@ -41,11 +41,12 @@ use Rattle.laws.proofs.Link.{run_grows}
 use Rattle.laws.proofs.Own.{assigned_grows, assigned_row}
 use Rattle.laws.proofs.Settle.{settles_ok, settles_err, ends_run}
 use Rattle.laws.proofs.Theorem.{start, step_refused, step_accepted, faithful, nums_same}
-use Rattle.readings.specs.Readings.{bit_number_of, number_of, numbers_of, Reading, BoundedByKind, NamesThere}
+use Rattle.bit_laws.specs.Bits.{bit_number_of}
+use Rattle.readings.specs.Readings.{number_of, numbers_of, Reading, BoundedByKind, NamesThere}
 use Rattle.readings.specs.Decision.{bill, by_bill, by_check, Real}
 use Rattle.readings.specs.State.{State, state, filed, performed, executed}
 use Rattle.readings.specs.Runs.{History, entries, decided, begins, accepts, refuses, GivenBy, Tells, Running, Promise, Stepped}
-use Rattle.readings.proofs.BitLaws.{gate_call}
+use Rattle.bit_laws.proofs.BitLaws.{gate_call}
 use Rattle.readings.proofs.CommandLaws.{Pre, computed, law, names as all_named, sees, local, wider, tidy, steady, pre_of, kinds_of}
 use Rattle.readings.proofs.Bills.{billed_so}
 
