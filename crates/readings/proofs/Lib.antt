@@ -1,3 +1,5 @@
+pub mod OnBook
+pub mod Proper
 pub mod CommandLaws
 pub mod Bills
 pub mod Step
