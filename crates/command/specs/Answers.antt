@@ -46,10 +46,11 @@ action (Clone a) book = Alias (answer_at book a)
 action (Not a) book = Bits (NotCall (bit_at book a))
 action (Gated g a b) book = Bits (GatedCall g (bit_at book a) (bit_at book b))
 
-abbrev pub action_script : ℕ → Action → Script Answer
-action_script p (Alias x) = answer x
-action_script p (Bits c) = then (call_script p c) (λ b. answer (Bit b))
+-- the steps of what is asked for, and the answers that they come to
+abbrev pub action_script : ℕ → Action → Script (List Answer)
+action_script p (Alias x) = answer (x ∷ [])
+action_script p (Bits c) = then (call_script p c) (λ b. answer (Bit b ∷ []))
 
 -- the steps of a command on a book, and the answers that it adds
 abbrev pub command_script : ℕ → Command → List Answer → Script (List Answer)
-command_script p c book = then (action_script p (action c book)) (λ x. answer (x ∷ []))
+command_script p c book = action_script p (action c book)

@@ -1,4 +1,4 @@
-ghost use Rattle.std.specs.Prelude.{◌≡◌};
+ghost use Rattle.std.specs.Prelude.{◌≡◌, ◌≤◌};
 ghost use Rattle.command.specs.Answers.{kind_of, mode_of, value_of};
 
 use crate::commands::Kind;
@@ -45,6 +45,48 @@ impl fmt::Display for Refused {
             refusal: Refusal { number, layer },
         } = *self;
         write!(f, "refused {command} {number} {layer}")
+    }
+}
+
+/// The answers of one command, in their order: at most 64.
+// An array with a count, and not a slice of the book: what a command answers is known before it is known whether the book takes it.
+#[derive(Clone, Copy)]
+pub struct Answers {
+    list: [Answer; 64],
+    count: usize,
+    ghost few: { count ≤ 64 },
+}
+
+impl Answers {
+    ghost use Rattle.std.specs.Prelude.{[], ◌∷◌};
+    ghost use Rattle.command.specs.Listed.{listed};
+
+    /// No answer.
+    pub fn none() -> Answers
+        ensures { listed result ≡ [] }
+    {
+        let nothing = Answer::Bit(Boolean::Constant(false));
+        Answers {
+            list: [nothing; 64],
+            count: 0,
+        }
+    }
+
+    /// One answer.
+    pub fn one(answer: Answer) -> Answers
+        ensures { listed result ≡ answer ∷ [] }
+    {
+        Answers {
+            list: [answer; 64],
+            count: 1,
+        }
+    }
+
+    /// The answers as a slice.
+    pub fn as_slice(&self) -> &[Answer]
+        ensures { result.now ≡ listed self.now }
+    {
+        &self.list[..self.count]
     }
 }
 

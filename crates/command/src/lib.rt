@@ -6,7 +6,7 @@ mod commands;
 mod decoding;
 mod fault;
 
-pub use answers::{Action, Answer, Refused, mode_of, value_of};
+pub use answers::{Action, Answer, Answers, Refused, mode_of, value_of};
 pub use checking::{Kinds, check};
 pub use commands::{Command, Decoded, Kind};
 pub use decoding::{command_length, decode};

@@ -173,21 +173,21 @@ Only R x [] = ⊥
 Only R x (y ∷ []) = R x y
 Only R x (y ∷ z ∷ ys) = ⊥
 
--- a gadget whose one answer is listed
-pub law_one : (p : ℕ) {In Out X Y : Type 0} (at : Val → In → X) (of : Val → Out → Y) (g : In → Script Out) (P : X → Type 0) (R : X → Y → Type 0) (S : X → Type 0) (e : X → Y) → Law p at of g P R S e
-    → Law p at (lists of) (λ i. then (g i) (λ o. answer (o ∷ []))) P (Only R) S (λ x. e x ∷ [])
-law_one p {In} {Out} {X} {Y} at of g P R S e a = record {
-  sound = λ ρ low i px. must_then p ρ (g i) (λ o. answer (o ∷ [])) (λ o. R (at ρ i) (of ρ o)) (λ os. Only R (at ρ i) (lists of ρ os)) (a.sound ρ low i px) (λ o r. r);
+-- a gadget whose one answer is listed, as an answer of another type with the same number
+pub law_one : (p : ℕ) {In Out Out' X Y : Type 0} (at : Val → In → X) (of : Val → Out → Y) (of' : Val → Out' → Y) (f : Out → Out') → ((ρ : Val) (o : Out) → of' ρ (f o) ≡ of ρ o) → (g : In → Script Out)
+    (P : X → Type 0) (R : X → Y → Type 0) (S : X → Type 0) (e : X → Y) → Law p at of g P R S e → Law p at (lists of') (λ i. then (g i) (λ o. answer (f o ∷ []))) P (Only R) S (λ x. e x ∷ [])
+law_one p {In} {Out} {Out'} {X} {Y} at of of' f same g P R S e a = record {
+  sound = λ ρ low i px. must_then p ρ (g i) (λ o. answer (f o ∷ [])) (λ o. R (at ρ i) (of ρ o)) (λ os. Only R (at ρ i) (lists of' ρ os)) (a.sound ρ low i px) (λ o r. subst (R (at ρ i)) (sym (same ρ o)) r);
   complete = complete;
   own = λ i x h. listed true i x (e x) (a.own i x h);
   obeyed = a.obeyed;
   solvable = solvable;
 }
   where
-    listed : (o : Bool) (i : In) (x : X) (y : Y) → Goes o p (g i) (λ ρ. at ρ i ≡ x) (λ ρ o. of ρ o ≡ y) → Goes o p (then (g i) (λ o. answer (o ∷ []))) (λ ρ. at ρ i ≡ x) (λ ρ os. lists of ρ os ≡ y ∷ [])
-    listed o i x y h = goes_then o p (g i) (λ o. answer (o ∷ [])) (λ ρ. at ρ i ≡ x) (λ ρ o. of ρ o ≡ y) (λ ρ os. lists of ρ os ≡ y ∷ []) h (λ o. (tt, λ ρ low q j. q.1 j ∷ []))
+    listed : (o : Bool) (i : In) (x : X) (y : Y) → Goes o p (g i) (λ ρ. at ρ i ≡ x) (λ ρ o. of ρ o ≡ y) → Goes o p (then (g i) (λ o. answer (f o ∷ []))) (λ ρ. at ρ i ≡ x) (λ ρ os. lists of' ρ os ≡ y ∷ [])
+    listed o i x y h = goes_then o p (g i) (λ o. answer (f o ∷ [])) (λ ρ. at ρ i ≡ x) (λ ρ o. of ρ o ≡ y) (λ ρ os. lists of' ρ os ≡ y ∷ []) h (λ o. (tt, λ ρ low q. ap (λ t. t ∷ []) (same ρ o ∙ q.1)))
 
-    complete : (i : In) (x : X) (ys : List Y) → P x → Only R x ys → Goes false p (then (g i) (λ o. answer (o ∷ []))) (λ ρ. at ρ i ≡ x) (λ ρ os. lists of ρ os ≡ ys)
+    complete : (i : In) (x : X) (ys : List Y) → P x → Only R x ys → Goes false p (then (g i) (λ o. answer (f o ∷ []))) (λ ρ. at ρ i ≡ x) (λ ρ os. lists of' ρ os ≡ ys)
     complete i x [] px r = absurd r
     complete i x (y ∷ []) px r = listed false i x y (a.complete i x y px r)
     complete i x (y ∷ z ∷ ys) px r = absurd r
@@ -239,6 +239,30 @@ law_hide p at of g P R S e a = record {
   obeyed = λ x px s. (e x, a.obeyed x px s);
   solvable = λ x u px r. a.solvable x r.0 px r.1;
 }
+
+-- the reading of a list without answers
+abbrev pub Nothing : {X Y : Type 0} → (X → Type 0) → X → List Y → Type 0
+Nothing R x [] = R x
+Nothing R x (y ∷ ys) = ⊥
+
+-- a statement, whose list of answers is empty
+pub law_none : (p : ℕ) {In Out X Y : Type 0} (at : Val → In → X) (of : Val → Out → Y) (g : In → Script (Unit {0})) (P : X → Type 0) (R : X → Type 0) (S : X → Type 0) → Law p at nothing g P (λ x u. R x) S (λ x. tt)
+    → Law p at (lists of) (λ i. then (g i) (λ u. answer [])) P (Nothing R) S (λ x. [])
+law_none p {In} {Out} {X} {Y} at of g P R S a = record {
+  sound = λ ρ low i px. must_then p ρ (g i) (λ u. answer []) (λ u. R (at ρ i)) (λ os. Nothing R (at ρ i) (lists of ρ os)) (a.sound ρ low i px) (λ u r. r);
+  complete = complete;
+  own = λ i x h. goes_then true p (g i) (λ u. answer []) (λ ρ. at ρ i ≡ x) (λ ρ u. nothing ρ u ≡ tt) (λ ρ os. lists of ρ os ≡ []) (a.own i x h) (λ u. (tt, λ ρ low q. refl));
+  obeyed = λ x px s. a.obeyed x px s;
+  solvable = solvable;
+}
+  where
+    complete : (i : In) (x : X) (ys : List Y) → P x → Nothing R x ys → Goes false p (then (g i) (λ u. answer [])) (λ ρ. at ρ i ≡ x) (λ ρ os. lists of ρ os ≡ ys)
+    complete i x [] px r = goes_then false p (g i) (λ u. answer []) (λ ρ. at ρ i ≡ x) (λ ρ u. nothing ρ u ≡ tt) (λ ρ os. lists of ρ os ≡ []) (a.complete i x tt px r) (λ u. (tt, λ ρ low q. refl))
+    complete i x (y ∷ ys) px r = absurd r
+
+    solvable : (x : X) (ys : List Y) → P x → Nothing R x ys → S x
+    solvable x [] px r = a.solvable x tt px r
+    solvable x (y ∷ ys) px r = absurd r
 
 -- ---- gadgets whose answer is a function of their operands
 abbrev pub Is : {X Y : Type 0} → (X → Y) → X → Y → Type 0

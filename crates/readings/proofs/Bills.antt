@@ -1,5 +1,5 @@
 -- The bill of each command is what its steps ask for.
-use Rattle.std.proofs.Common.{◌≡◌, ℕ, zero, suc, ◌+◌, ◌-◌, ◌%◌, ◌<◌, Bool, true, false, cond, eqb, ◌≢◌, List, [], ◌∷◌, length, Some, None, Option, sym, refl, ap, ◌∙◌, subst, mod-eq_of_lt, arith, eq-eqb, ne_eqb, true-eqb, false-eqb}
+use Rattle.std.proofs.Common.{◌≡◌, ℕ, ◌+◌, ◌-◌, ◌%◌, ◌<◌, Bool, true, false, cond, eqb, ◌≢◌, List, [], ◌∷◌, length, Some, None, Option, sym, refl, ap, ◌∙◌, subst, mod-eq_of_lt, arith, eq-eqb, ne_eqb, true-eqb, false-eqb}
 use borrow.Author.Tests.{true-ltb}
 use Rattle.relations.specs.declared.term.Variable.{Variable}
 use Rattle.relations.specs.declared.term.Variable.TheVariants.{One, Zero, Input, Witness, Combination}
@@ -20,14 +20,16 @@ use Rattle.command.specs.declared.commands.Command.{Command}
 use Rattle.command.specs.declared.commands.Command.TheVariants.{Bit as BitCommand, Clone, Not, Gated}
 use Rattle.command.specs.declared.answers.Answer.{Answer}
 use Rattle.command.specs.declared.answers.Answer.TheVariants.{Bit}
-use Rattle.command.specs.Answers.{mode_of, value_of, answer_at, as_bit, bit_at, command_script}
-use Rattle.laws.specs.Law.{There, present}
+use Rattle.command.specs.Answers.{mode_of, value_of, bit_at, command_script}
+use Rattle.laws.specs.Law.{present}
 use Rattle.laws.specs.History.{Each}
 use Rattle.laws.specs.Bill.{takes_variable, takes_combination, takes_row, Next, names, charges}
 use Rattle.readings.specs.Readings.{NamesThere}
 use Rattle.readings.specs.Decision.{given, new_bill, not_bill, gate_bill, bill, real, Real}
-use Rattle.readings.proofs.BitLaws.{gate_call}
-use Rattle.readings.proofs.CommandLaws.{there_at}
+use Rattle.bit_laws.proofs.BitLaws.{gate_call}
+use Rattle.bit_laws.specs.Bits.{ThereBit}
+use Rattle.readings.proofs.OnBook.{RealBit}
+use Rattle.readings.proofs.CommandLaws.{there_bit_at, real_bit_at}
 
 clash : {A : Type 0} → ◌≡◌ {A = Bool} false true → A
 clash e = let z : ◌≡◌ {A = ℕ} 0 1 = cc in absurd (omega arith)
@@ -142,10 +144,7 @@ module _ (p : ℕ) (two : 2 < p) where
 
   -- ---- the steps of each command
   abbrev answered : Script Boolean → Script (List Answer)
-  answered s = then (then s (λ b. answer (Bit b))) (λ x. answer (x ∷ []))
-
-  abbrev RealBit : Boolean → Type 0
-  RealBit b = Real (Bit b)
+  answered s = then s (λ b. answer (Bit b ∷ []))
 
   not_charges : (n : Next) (b : Boolean) → RealBit b → charges p n (answered (not_script p b)) ≡ not_bill b
   not_charges n (Constant b) r = refl
@@ -165,7 +164,7 @@ module _ (p : ℕ) (two : 2 < p) where
   xor_terms true = refl
   xor_terms false = refl
 
-  gate_charges : (m : Meaning) (g : Gate) (a b : Boolean) → RealBit a → RealBit b → NamesThere (has m) (Bit a) → NamesThere (has m) (Bit b) → charges p (names m) (answered (gate_call g p (a, b))) ≡ gate_bill g a b
+  gate_charges : (m : Meaning) (g : Gate) (a b : Boolean) → RealBit a → RealBit b → ThereBit (has m) a → ThereBit (has m) b → charges p (names m) (answered (gate_call g p (a, b))) ≡ gate_bill g a b
   gate_charges m And (Constant true) b ra rb ta tb = refl
   gate_charges m And (Constant false) b ra rb ta tb = refl
   gate_charges m And (Var a) (Constant true) ra rb ta tb = refl
@@ -184,21 +183,8 @@ module _ (p : ℕ) (two : 2 < p) where
       (λ i. takes_variable witness true ∷ (takes_row (just_size 2 a.variable two_some ra i + just_size 1 b.variable one_some rb i + xor_size a.variable b.variable (Witness (length m.witnesses)) ra rb refl (new_apart m a.variable ra ta) (new_apart m b.variable rb tb) i) ∷ []))
       ∙ ap (λ (k : ℕ). takes_variable witness true ∷ (takes_row k ∷ [])) (xor_terms (eqb (code a.variable) (code b.variable)))
 
-  real_at : (bk : List Answer) (a : ℕ) → Each Real bk → Real (answer_at bk a)
-  real_at [] a e = tt
-  real_at (x ∷ bk) zero e = e.0
-  real_at (x ∷ bk) (suc a) e = real_at bk a e.1
-
-  real_bit : (x : Answer) → Real x → RealBit (as_bit x)
-  real_bit (Bit b) r = r
-
-  there_bit : (h : There) (x : Answer) → NamesThere h x → NamesThere h (Bit (as_bit x))
-  there_bit h (Bit b) t = t
-
-  pub billed_so : (m : Meaning) (c : Command) (bk : List Answer) → Each Real bk → Each (NamesThere (has m)) bk → charges p (names m) (command_script p c bk) ≡ bill c bk
+  pub billed_so : (m : Meaning) (c : Command) (bk : List Answer) → Each Real bk → Each (NamesThere (has m)) bk → charges p (names m) (command_script p c bk) ≡ bill p c bk
   billed_so m (BitCommand mode v) bk r t = new_charges (names m) (mode_of mode) (value_of v)
   billed_so m (Clone a) bk r t = refl
-  billed_so m (Not a) bk r t = not_charges (names m) (bit_at bk a) (real_bit (answer_at bk a) (real_at bk a r))
-  billed_so m (Gated g a b) bk r t =
-      gate_charges m g (bit_at bk a) (bit_at bk b) (real_bit (answer_at bk a) (real_at bk a r)) (real_bit (answer_at bk b) (real_at bk b r))
-      (there_bit (has m) (answer_at bk a) (there_at (has m) bk a t)) (there_bit (has m) (answer_at bk b) (there_at (has m) bk b t))
+  billed_so m (Not a) bk r t = not_charges (names m) (bit_at bk a) (real_bit_at bk a r)
+  billed_so m (Gated g a b) bk r t = gate_charges m g (bit_at bk a) (bit_at bk b) (real_bit_at bk a r) (real_bit_at bk b r) (there_bit_at (has m) bk a t) (there_bit_at (has m) bk b t)

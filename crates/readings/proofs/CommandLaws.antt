@@ -1,42 +1,33 @@
--- The laws of the commands, whose operands are found in a book.
-use Rattle.std.proofs.Common.{◌≡◌, ℕ, zero, suc, ◌<◌, ◌≤◌, Bool, true, false, List, [], ◌∷◌, length, get_or, Some, None, Option, sym, refl, ◌∙◌, subst, arith}
+-- The commands, whose operands are found in a book.
+use Rattle.std.proofs.Common.{◌≡◌, ℕ, zero, suc, ◌≤◌, ◌<◌, Bool, true, false, List, [], ◌∷◌, length, get_or, sym, refl, ap, ◌∙◌, subst, arith}
+use lib.ListN.{length-map}
+use borrow.Author.Tests.{true-ltb}
+use Rattle.std.proofs.lemmas.List.{get_or-map}
 use Rattle.arith.specs.Number.{Prime}
-use Rattle.relations.specs.declared.term.Variable.TheVariants.{One}
 use Rattle.relations.specs.Meaning.{number}
-use Rattle.relations.specs.Script.{Script, answer, refuse, allocate, combine, row, then}
-use Rattle.boolean.specs.declared.mode.AllocationMode.{AllocationMode}
-use Rattle.boolean.specs.declared.mode.AllocationMode.TheVariants.{Constant as as_constant, Input as as_input, Witness as as_witness}
-use Rattle.allocated.specs.declared.gate.Gate.{Gate}
-use Rattle.allocated.specs.declared.gate.Gate.TheVariants.{And, Or, Xor}
-use Rattle.boolean.specs.declared.bits.Boolean.{Boolean}
+use Rattle.relations.specs.Script.{answer}
 use Rattle.boolean.specs.declared.bits.Boolean.TheVariants.{Constant, Var}
+use Rattle.allocated.specs.declared.gate.Gate.{Gate}
 use Rattle.allocated.specs.Gates.{bit, bit_number}
 use Rattle.boolean.specs.Booleans.{alloc_script, not_script}
+use Rattle.command.specs.declared.commands.Kind.TheVariants.{Number as a_number}
 use Rattle.command.specs.declared.commands.Command.{Command}
 use Rattle.command.specs.declared.commands.Command.TheVariants.{Bit as BitCommand, Clone, Not, Gated}
 use Rattle.command.specs.declared.answers.Answer.{Answer}
 use Rattle.command.specs.declared.answers.Answer.TheVariants.{Bit}
-use Rattle.command.specs.Answers.{mode_of, value_of, answer_at, bit_at, as_bit, action, action_script, command_script}
-use Rattle.laws.specs.Law.{Val, Goes, Law, There, Wider, Names, Sees, Below, Tidy, Steady, lists}
+use Rattle.command.specs.Decide.{fits, answers}
+use Rattle.command.specs.Answers.{kind_of, kinds, mode_of, value_of, answer_at, bit_at, as_bit, command_script}
+use Rattle.laws.specs.Law.{Val, Law, There, Wider}
 use Rattle.laws.specs.Runs.{Agree}
 use Rattle.laws.specs.History.{Each, Along}
-use Rattle.laws.proofs.Frame.{must_then, goes_then, Is, function_law, function_pure, law_on, law_one, sees_then, sees_names, tidy_then}
-use Rattle.readings.specs.Readings.{bit_number_of, number_of, numbers_of, OneReading, Reading, BoundedByKind, NamesThere}
-use Rattle.readings.proofs.BitLaws.{pair, flipped, tabled, Bits, gate_call, not_function, gate_function, New, new_law}
-
--- ---- a gadget whose answer is another type's
-pub law_over : (p : ℕ) {In Out Out' X Y : Type 0} (at : Val → In → X) (of : Val → Out → Y) (of' : Val → Out' → Y) (f : Out → Out') → ((ρ : Val) (o : Out) → of' ρ (f o) ≡ of ρ o) → (g : In → Script Out)
-    (P : X → Type 0) (R : X → Y → Type 0) (S : X → Type 0) (e : X → Y) → Law p at of g P R S e → Law p at of' (λ i. then (g i) (λ o. answer (f o))) P R S e
-law_over p {In} {Out} {Out'} {X} {Y} at of of' f same g P R S e a = record {
-  sound = λ ρ low i h. must_then p ρ (g i) (λ o. answer (f o)) (λ o. R (at ρ i) (of ρ o)) (λ o. R (at ρ i) (of' ρ o)) (a.sound ρ low i h) (λ o r. subst (R (at ρ i)) (sym (same ρ o)) r);
-  complete = λ i x y h r. turned false i x y (a.complete i x y h r);
-  own = λ i x h. turned true i x (e x) (a.own i x h);
-  obeyed = a.obeyed;
-  solvable = a.solvable;
-}
-  where
-    turned : (b : Bool) (i : In) (x : X) (y : Y) → Goes b p (g i) (λ ρ. at ρ i ≡ x) (λ ρ o. of ρ o ≡ y) → Goes b p (then (g i) (λ o. answer (f o))) (λ ρ. at ρ i ≡ x) (λ ρ o. of' ρ o ≡ y)
-    turned b i x y h = goes_then b p (g i) (λ o. answer (f o)) (λ ρ. at ρ i ≡ x) (λ ρ o. of ρ o ≡ y) (λ ρ o. of' ρ o ≡ y) h (λ o. (tt, λ ρ low q. same ρ o ∙ q.1))
+use Rattle.laws.proofs.Frame.{Is, function_law, function_pure, law_on, law_one}
+use Rattle.readings.specs.Readings.{number_of, numbers_of, OneReading, Reading, BoundedByKind, NamesThere}
+use Rattle.readings.specs.Decision.{Real}
+use Rattle.bit_laws.specs.Bits.{bit_number_of, ThereBit}
+use Rattle.bit_laws.proofs.BitOrder.{not_sees, new_sees, gate_sees, new_tidy, not_tidy, gate_tidy, new_steady, not_steady, gate_steady}
+use Rattle.bit_laws.proofs.BitLaws.{pair, flipped, tabled, Bits, gate_call, not_function, gate_function, new_law}
+use Rattle.readings.proofs.OnBook.{RealBit, Served, serve_bit, first_of}
+use Rattle.readings.proofs.Proper.{not_real, new_real, gate_real}
 
 -- ---- operands in the book
 pub answer_same : (ρ : Val) (bk : List Answer) (a : ℕ) → number_of ρ (answer_at bk a) ≡ get_or (numbers_of ρ bk) a 0
@@ -50,6 +41,30 @@ as_bit_number ρ (Bit b) = refl
 pub bit_same : (ρ : Val) (bk : List Answer) (a : ℕ) → bit_number_of ρ (bit_at bk a) ≡ get_or (numbers_of ρ bk) a 0
 bit_same ρ bk a = as_bit_number ρ (answer_at bk a) ∙ answer_same ρ bk a
 
+-- what an answer of the book is, where something holds of each
+pub each_at : (P : Answer → Type 0) → P (Bit (Constant false)) → (bk : List Answer) (a : ℕ) → Each P bk → P (answer_at bk a)
+each_at P d [] a e = d
+each_at P d (x ∷ bk) zero e = e.0
+each_at P d (x ∷ bk) (suc a) e = each_at P d bk a e.1
+
+pub there_at : (h : There) (bk : List Answer) (a : ℕ) → Each (NamesThere h) bk → NamesThere h (answer_at bk a)
+there_at h bk a e = each_at (NamesThere h) tt bk a e
+
+there_bit : (h : There) (x : Answer) → NamesThere h x → ThereBit h (as_bit x)
+there_bit h (Bit b) t = t
+
+pub there_bit_at : (h : There) (bk : List Answer) (a : ℕ) → Each (NamesThere h) bk → ThereBit h (bit_at bk a)
+there_bit_at h bk a e = there_bit h (answer_at bk a) (there_at h bk a e)
+
+real_bit : (x : Answer) → Real x → RealBit (as_bit x)
+real_bit (Bit b) r = r
+
+pub real_at : (bk : List Answer) (a : ℕ) → Each Real bk → Real (answer_at bk a)
+real_at bk a e = each_at Real tt bk a e
+
+pub real_bit_at : (bk : List Answer) (a : ℕ) → Each Real bk → RealBit (bit_at bk a)
+real_bit_at bk a e = real_bit (answer_at bk a) (real_at bk a e)
+
 -- ---- one command
 -- what must be known of its operands
 abbrev pub Pre : Command → List ℕ → Type 0
@@ -58,195 +73,19 @@ Pre (Clone a) xs = Unit {0}
 Pre (Not a) xs = get_or xs a 0 ≤ 1
 Pre (Gated g a b) xs = (get_or xs a 0 ≤ 1) × (get_or xs b 0 ≤ 1)
 
+-- for which operands it can be obeyed
+abbrev pub Solvable : Command → List ℕ → Type 0
+Solvable (BitCommand m v) xs = Unit {0}
+Solvable (Clone a) xs = Unit {0}
+Solvable (Not a) xs = Unit {0}
+Solvable (Gated g a b) xs = Unit {0}
+
 -- what its steps compute
-abbrev pub computed : Command → List ℕ → ℕ
-computed (BitCommand m v) xs = number (bit_number (value_of v))
-computed (Clone a) xs = get_or xs a 0
-computed (Not a) xs = flipped (get_or xs a 0)
-computed (Gated g a b) xs = tabled g (get_or xs a 0, get_or xs b 0)
-
-abbrev one_script : ℕ → Command → List Answer → Script Answer
-one_script p c bk = action_script p (action c bk)
-
-one_law : (p : ℕ) → Prime p → 2 < p → (c : Command) → Law p numbers_of number_of (one_script p c) (Pre c) (OneReading c) (λ xs. Unit {0}) (computed c)
-one_law p P two (BitCommand m v) =
-    law_over p numbers_of bit_number_of number_of Bit (λ ρ o. refl) (λ bk. alloc_script p (mode_of m) (value_of v)) (λ xs. Unit {0}) (λ xs. New (mode_of m) (value_of v)) (λ xs. Unit {0}) (λ xs. number (bit_number (value_of v)))
-    (new_law p P numbers_of (mode_of m) (value_of v))
-one_law p P two (Clone a) =
-    function_law p numbers_of number_of (one_script p (Clone a)) (λ xs. Unit {0}) (OneReading (Clone a)) (λ xs. get_or xs a 0) (λ xs h. refl) (λ xs y h r. r)
-    (function_pure p numbers_of number_of (one_script p (Clone a)) (λ xs. Unit {0}) (λ xs. get_or xs a 0) (λ bk. tt) (λ ρ low bk h. answer_same ρ bk a))
-one_law p P two (Not a) =
-    law_over p numbers_of bit_number_of number_of Bit (λ ρ o. refl) (λ bk. not_script p (bit_at bk a)) (Pre (Not a)) (OneReading (Not a)) (λ xs. Unit {0}) (λ xs. flipped (get_or xs a 0))
-    (law_on p bit_number_of bit_number_of (not_script p) numbers_of (λ bk. bit_at bk a) (λ xs. get_or xs a 0) (λ ρ bk. bit_same ρ bk a) (λ x. x ≤ 1) (Is flipped) (λ x. Unit {0}) flipped
-    (function_law p bit_number_of bit_number_of (not_script p) (λ x. x ≤ 1) (Is flipped) flipped (λ x h. refl) (λ x y h r. r) (not_function p P)))
-one_law p P two (Gated g a b) =
-    law_over p numbers_of bit_number_of number_of Bit (λ ρ o. refl) (λ bk. gate_call g p (bit_at bk a, bit_at bk b)) (Pre (Gated g a b)) (OneReading (Gated g a b)) (λ xs. Unit {0}) (λ xs. tabled g (get_or xs a 0, get_or xs b 0))
-    (law_on p pair bit_number_of (gate_call g p) numbers_of (λ bk. (bit_at bk a, bit_at bk b)) (λ xs. (get_or xs a 0, get_or xs b 0)) (λ ρ bk i. (bit_same ρ bk a i, bit_same ρ bk b i)) Bits (Is (tabled g)) (λ x. Unit {0}) (tabled g)
-    (function_law p pair bit_number_of (gate_call g p) Bits (Is (tabled g)) (tabled g) (λ x h. refl) (λ x y h r. r) (gate_function g p P two)))
-
-pub law : (p : ℕ) → Prime p → 2 < p → (c : Command) → Law p (lists number_of) (lists number_of) (command_script p c) (Pre c) (Reading c) (λ xs. Unit {0}) (λ xs. computed c xs ∷ [])
-law p P two c = law_one p numbers_of number_of (one_script p c) (Pre c) (OneReading c) (λ xs. Unit {0}) (computed c) (one_law p P two c)
-
--- ---- what is named is there
-abbrev ThereBit : There → Boolean → Type 0
-ThereBit h b = NamesThere h (Bit b)
-
-wider_answer : (h k : There) → Wider h k → (o : Answer) → NamesThere h o → NamesThere k o
-wider_answer h k w (Bit (Constant b)) t = tt
-wider_answer h k w (Bit (Var a)) t = w a.variable t
-
-pub there_at : (h : There) (bk : List Answer) (a : ℕ) → Each (NamesThere h) bk → NamesThere h (answer_at bk a)
-there_at h [] a e = tt
-there_at h (x ∷ bk) zero e = e.0
-there_at h (x ∷ bk) (suc a) e = there_at h bk a e.1
-
-there_bit : (h : There) (x : Answer) → NamesThere h x → ThereBit h (as_bit x)
-there_bit h (Bit b) t = t
-
--- One is always there
-abbrev pub HasOne : There → Type 0
-HasOne h = h One ≡ true
-
-not_sees : (p : ℕ) (h : There) → HasOne h → (a : Boolean) → ThereBit h a → Sees h (not_script p a) ThereBit
-not_sees p h o (Constant b) t = tt
-not_sees p h o (Var a) t = ((o, (t, tt)), λ h₁ w v e. e)
-
-new_sees : (p : ℕ) (h : There) → HasOne h → (m : AllocationMode) (v : Option Bool) → Sees h (alloc_script p m v) ThereBit
-new_sees p h o as_constant None = tt
-new_sees p h o as_constant (Some b) = tt
-new_sees p h o as_input v = (tt, λ h₁ w x e. ((w One o, (e, tt)), (e, tt), tt, e))
-new_sees p h o as_witness v = (tt, λ h₁ w x e. ((w One o, (e, tt)), (e, tt), tt, e))
-
-gate_sees : (g : Gate) (p : ℕ) (h : There) → HasOne h → (a b : Boolean) → ThereBit h a → ThereBit h b → Sees h (gate_call g p (a, b)) ThereBit
-gate_sees And p h o (Constant true) b ta tb = tb
-gate_sees And p h o (Constant false) b ta tb = tt
-gate_sees And p h o (Var a) (Constant true) ta tb = ta
-gate_sees And p h o (Var a) (Constant false) ta tb = tt
-gate_sees And p h o (Var a) (Var b) ta tb = ((ta, (tb, tt)), λ h₁ w x e. ((w a.variable ta, tt), (w b.variable tb, tt), (e, tt), e))
-gate_sees Or p h o (Constant true) b ta tb = tt
-gate_sees Or p h o (Constant false) b ta tb = tb
-gate_sees Or p h o (Var a) (Constant true) ta tb = tt
-gate_sees Or p h o (Var a) (Constant false) ta tb = ta
-gate_sees Or p h o (Var a) (Var b) ta tb = ((ta, (tb, tt)), λ h₁ w x e. ((w One o, (w a.variable ta, tt)), (w One o, (w b.variable tb, tt)), (w One o, (e, tt)), e))
-gate_sees Xor p h o (Constant true) b ta tb = not_sees p h o b tb
-gate_sees Xor p h o (Constant false) b ta tb = tb
-gate_sees Xor p h o (Var a) (Constant true) ta tb = not_sees p h o (Var a) ta
-gate_sees Xor p h o (Var a) (Constant false) ta tb = ta
-gate_sees Xor p h o (Var a) (Var b) ta tb = ((ta, (tb, tt)), λ h₁ w x e. ((w a.variable ta, tt), (w b.variable tb, tt), (w a.variable ta, (w b.variable tb, (e, tt))), e))
-
-as_answer : (p : ℕ) (h : There) (s : Script Boolean) → Sees h s ThereBit → Sees h (then s (λ b. answer (Bit b))) NamesThere
-as_answer p h s t = sees_then h s (λ b. answer (Bit b)) ThereBit NamesThere t (λ h₁ w b e. e)
-
-one_sees : (p : ℕ) (c : Command) (bk : List Answer) (h : There) → HasOne h → Each (NamesThere h) bk → Sees h (one_script p c bk) NamesThere
-one_sees p (BitCommand m v) bk h o e = as_answer p h (alloc_script p (mode_of m) (value_of v)) (new_sees p h o (mode_of m) (value_of v))
-one_sees p (Clone a) bk h o e = there_at h bk a e
-one_sees p (Not a) bk h o e = as_answer p h (not_script p (bit_at bk a)) (not_sees p h o (bit_at bk a) (there_bit h (answer_at bk a) (there_at h bk a e)))
-one_sees p (Gated g a b) bk h o e = as_answer p h (gate_call g p (bit_at bk a, bit_at bk b)) (gate_sees g p h o (bit_at bk a) (bit_at bk b) (there_bit h (answer_at bk a) (there_at h bk a e)) (there_bit h (answer_at bk b) (there_at h bk b e)))
-
-pub sees : (p : ℕ) (c : Command) (bk : List Answer) (h : There) → HasOne h → Each (NamesThere h) bk → Sees h (command_script p c bk) (λ k os. Each (NamesThere k) os)
-sees p c bk h o e = sees_then h (one_script p c bk) (λ x. answer (x ∷ [])) NamesThere (λ k os. Each (NamesThere k) os) (one_sees p c bk h o e) (λ h₁ w x t. (t, tt))
-
-pub names : (p : ℕ) (c : Command) (bk : List Answer) (h : There) → HasOne h → Each (NamesThere h) bk → Names h (command_script p c bk) (λ k os. Each (NamesThere k) os)
-names p c bk h o e = sees_names h (command_script p c bk) (λ k os. Each (NamesThere k) os) (sees p c bk h o e)
-
-pub local : (h : There) (ρ σ : Val) → Agree h ρ σ → (o : Answer) → NamesThere h o → number_of σ o ≡ number_of ρ o
-local h ρ σ g (Bit (Constant b)) t = refl
-local h ρ σ g (Bit (Var a)) t = g a.variable t
-
-pub wider : (h k : There) → Wider h k → (o : Answer) → NamesThere h o → NamesThere k o
-wider = wider_answer
-
--- ---- the values that are given are bits, and are there whatever was asked for
-bit_below : (p : ℕ) → 1 < p → (b : Bool) → bit b < p
-bit_below p above true = above
-bit_below p above false = omega arith
-
-new_tidy : (p : ℕ) → 1 < p → (m : AllocationMode) (v : Option Bool) → Tidy p (alloc_script p m v)
-new_tidy p above as_constant None = tt
-new_tidy p above as_constant (Some b) = tt
-new_tidy p above as_input v = ((λ ρ low. go v), λ x. tt)
-  where
-    go : (v : Option Bool) → Below p (bit_number v)
-    go None = tt
-    go (Some b) = bit_below p above b
-new_tidy p above as_witness v = ((λ ρ low. go v), λ x. tt)
-  where
-    go : (v : Option Bool) → Below p (bit_number v)
-    go None = tt
-    go (Some b) = bit_below p above b
-
-not_tidy : (p : ℕ) (a : Boolean) → Tidy p (not_script p a)
-not_tidy p (Constant b) = tt
-not_tidy p (Var a) = λ v. tt
-
-gate_tidy : (g : Gate) (p : ℕ) → 1 < p → (a b : Boolean) → Tidy p (gate_call g p (a, b))
-gate_tidy And p above (Constant true) b = tt
-gate_tidy And p above (Constant false) b = tt
-gate_tidy And p above (Var a) (Constant true) = tt
-gate_tidy And p above (Var a) (Constant false) = tt
-gate_tidy And p above (Var a) (Var b) = ((λ ρ low. bit_below p above _), λ v. tt)
-gate_tidy Or p above (Constant true) b = tt
-gate_tidy Or p above (Constant false) b = tt
-gate_tidy Or p above (Var a) (Constant true) = tt
-gate_tidy Or p above (Var a) (Constant false) = tt
-gate_tidy Or p above (Var a) (Var b) = ((λ ρ low. bit_below p above _), λ v. tt)
-gate_tidy Xor p above (Constant true) b = not_tidy p b
-gate_tidy Xor p above (Constant false) b = tt
-gate_tidy Xor p above (Var a) (Constant true) = λ v. tt
-gate_tidy Xor p above (Var a) (Constant false) = tt
-gate_tidy Xor p above (Var a) (Var b) = ((λ ρ low. bit_below p above _), λ v. tt)
-
-one_tidy : (p : ℕ) → 1 < p → (c : Command) (bk : List Answer) → Tidy p (one_script p c bk)
-one_tidy p above (BitCommand m v) bk = tidy_then p (alloc_script p (mode_of m) (value_of v)) (λ b. answer (Bit b)) (new_tidy p above (mode_of m) (value_of v)) (λ x. tt)
-one_tidy p above (Clone a) bk = tt
-one_tidy p above (Not a) bk = tidy_then p (not_script p (bit_at bk a)) (λ b. answer (Bit b)) (not_tidy p (bit_at bk a)) (λ x. tt)
-one_tidy p above (Gated g a b) bk = tidy_then p (gate_call g p (bit_at bk a, bit_at bk b)) (λ b. answer (Bit b)) (gate_tidy g p above (bit_at bk a) (bit_at bk b)) (λ x. tt)
-
-pub tidy : (p : ℕ) → 1 < p → (c : Command) (bk : List Answer) → Tidy p (command_script p c bk)
-tidy p above c bk = tidy_then p (one_script p c bk) (λ x. answer (x ∷ [])) (one_tidy p above c bk) (λ x. tt)
-
-steady_then : {A B : Type 0} (s : Script A) (k : A → Script B) → Steady s → ((x : A) → Steady (k x)) → Steady (then s k)
-steady_then (answer x) k h f = f x
-steady_then (refuse e) k h f = tt
-steady_then (allocate d vs g c) k h f = (h.0, λ v. steady_then (c v) k (h.1 v) f)
-steady_then (combine ts c) k h f = λ v. steady_then (c v) k (h v) f
-steady_then (row a b c s) k h f = steady_then s k h f
-
-new_steady : (p : ℕ) (m : AllocationMode) (v : Option Bool) → Steady (alloc_script p m v)
-new_steady p as_constant None = tt
-new_steady p as_constant (Some b) = tt
-new_steady p as_input v = ((λ ρ. refl), λ x. tt)
-new_steady p as_witness v = ((λ ρ. refl), λ x. tt)
-
-not_steady : (p : ℕ) (a : Boolean) → Steady (not_script p a)
-not_steady p (Constant b) = tt
-not_steady p (Var a) = λ v. tt
-
-gate_steady : (g : Gate) (p : ℕ) (a b : Boolean) → Steady (gate_call g p (a, b))
-gate_steady And p (Constant true) b = tt
-gate_steady And p (Constant false) b = tt
-gate_steady And p (Var a) (Constant true) = tt
-gate_steady And p (Var a) (Constant false) = tt
-gate_steady And p (Var a) (Var b) = ((λ ρ. refl), λ v. tt)
-gate_steady Or p (Constant true) b = tt
-gate_steady Or p (Constant false) b = tt
-gate_steady Or p (Var a) (Constant true) = tt
-gate_steady Or p (Var a) (Constant false) = tt
-gate_steady Or p (Var a) (Var b) = ((λ ρ. refl), λ v. tt)
-gate_steady Xor p (Constant true) b = not_steady p b
-gate_steady Xor p (Constant false) b = tt
-gate_steady Xor p (Var a) (Constant true) = λ v. tt
-gate_steady Xor p (Var a) (Constant false) = tt
-gate_steady Xor p (Var a) (Var b) = ((λ ρ. refl), λ v. tt)
-
-one_steady : (p : ℕ) (c : Command) (bk : List Answer) → Steady (one_script p c bk)
-one_steady p (BitCommand m v) bk = steady_then (alloc_script p (mode_of m) (value_of v)) (λ b. answer (Bit b)) (new_steady p (mode_of m) (value_of v)) (λ x. tt)
-one_steady p (Clone a) bk = tt
-one_steady p (Not a) bk = steady_then (not_script p (bit_at bk a)) (λ b. answer (Bit b)) (not_steady p (bit_at bk a)) (λ x. tt)
-one_steady p (Gated g a b) bk = steady_then (gate_call g p (bit_at bk a, bit_at bk b)) (λ b. answer (Bit b)) (gate_steady g p (bit_at bk a) (bit_at bk b)) (λ x. tt)
-
-pub steady : (p : ℕ) (c : Command) (bk : List Answer) → Steady (command_script p c bk)
-steady p c bk = steady_then (one_script p c bk) (λ x. answer (x ∷ [])) (one_steady p c bk) (λ x. tt)
+abbrev pub computed : Command → List ℕ → List ℕ
+computed (BitCommand m v) xs = number (bit_number (value_of v)) ∷ []
+computed (Clone a) xs = get_or xs a 0 ∷ []
+computed (Not a) xs = flipped (get_or xs a 0) ∷ []
+computed (Gated g a b) xs = tabled g (get_or xs a 0, get_or xs b 0) ∷ []
 
 -- ---- numbers that fit the answers
 all_bits : (bk : List Answer) (xs : List ℕ) → Along BoundedByKind bk xs → (a : ℕ) → get_or xs a 0 ≤ 1
@@ -256,25 +95,87 @@ all_bits (o ∷ bk) [] h a = absurd h
 all_bits (Bit b ∷ bk) (x ∷ xs) h zero = h.0
 all_bits (o ∷ bk) (x ∷ xs) h (suc a) = all_bits bk xs h.1 a
 
-pub pre_of : (c : Command) (bk : List Answer) (xs : List ℕ) → Along BoundedByKind bk xs → Pre c xs
-pre_of (BitCommand m v) bk xs h = tt
-pre_of (Clone a) bk xs h = tt
-pre_of (Not a) bk xs h = all_bits bk xs h a
-pre_of (Gated g a b) bk xs h = (all_bits bk xs h a, all_bits bk xs h b)
-
 bit_at_most : (b : Bool) → bit b ≤ 1
 bit_at_most true = omega arith
 bit_at_most false = omega arith
 
-read_low : (c : Command) (bk : List Answer) (old : List ℕ) → Along BoundedByKind bk old → (r : ℕ) → OneReading c old r → r ≤ 1
-read_low (BitCommand m v) bk old h r q = q.0
-read_low (Clone a) bk old h r q = subst (λ (x : ℕ). x ≤ 1) (sym q) (all_bits bk old h a)
-read_low (Not a) bk old h r q = subst (λ (x : ℕ). x ≤ 1) (sym q) (bit_at_most _)
-read_low (Gated g a b) bk old h r q = subst (λ (x : ℕ). x ≤ 1) (sym q) (bit_at_most _)
+-- ---- the commands
+module _ (p : ℕ) (P : Prime p) (two : 2 < p) where
+  abbrev pub Serves : Command → Type 0
+  Serves c = Served p (command_script p c) (fits c) (answers c) (Pre c) (Reading c) (Solvable c) (computed c)
 
-pub kinds_of : (c : Command) (bk os : List Answer) (old new : List ℕ) → Along BoundedByKind bk old → length new ≡ length os → Reading c old new → Along BoundedByKind os new
-kinds_of c bk os old [] h l q = absurd q
-kinds_of c bk [] old (r ∷ []) h l q = absurd (omega arith)
-kinds_of c bk (Bit b ∷ []) old (r ∷ []) h l q = (read_low c bk old h r q, tt)
-kinds_of c bk (o ∷ o₁ ∷ os) old (r ∷ []) h l q = absurd (omega arith)
-kinds_of c bk os old (r ∷ s ∷ new) h l q = absurd q
+  bit_command : (m v : ℕ) → Serves (BitCommand m v)
+  bit_command m v = serve_bit p (λ bk. alloc_script p (mode_of m) (value_of v)) (fits (BitCommand m v)) (λ xs. Unit {0}) (OneReading (BitCommand m v)) (λ xs. Unit {0}) (λ xs. number (bit_number (value_of v))) record {
+    law = new_law p P numbers_of (mode_of m) (value_of v);
+    sees = λ bk h o t. new_sees p h o (mode_of m) (value_of v);
+    tidy = λ bk. new_tidy p P.0 (mode_of m) (value_of v);
+    steady = λ bk. new_steady p (mode_of m) (value_of v);
+    proper = λ n k bk o r q. new_real p n k (mode_of m) (value_of v) o q;
+    pre = λ bk xs h. tt;
+  } (λ bk xs h r q. q.0)
+
+  not_command : (a : ℕ) → Serves (Not a)
+  not_command a = serve_bit p (λ bk. not_script p (bit_at bk a)) (fits (Not a)) (Pre (Not a)) (OneReading (Not a)) (λ xs. Unit {0}) (λ xs. flipped (get_or xs a 0)) record {
+    law = law_on p bit_number_of bit_number_of (not_script p) numbers_of (λ bk. bit_at bk a) (λ xs. get_or xs a 0) (λ ρ bk. bit_same ρ bk a) (λ x. x ≤ 1) (Is flipped) (λ x. Unit {0}) flipped
+        (function_law p bit_number_of bit_number_of (not_script p) (λ x. x ≤ 1) (Is flipped) flipped (λ x h. refl) (λ x y h r. r) (not_function p P));
+    sees = λ bk h o t. not_sees p h o (bit_at bk a) (there_bit_at h bk a t);
+    tidy = λ bk. not_tidy p (bit_at bk a);
+    steady = λ bk. not_steady p (bit_at bk a);
+    proper = λ n k bk o r q. not_real p n k (bit_at bk a) o q;
+    pre = λ bk xs h. all_bits bk xs h a;
+  } (λ bk xs h r q. subst (λ (x : ℕ). x ≤ 1) (sym q) (bit_at_most _))
+
+  gate_command : (g : Gate) (a b : ℕ) → Serves (Gated g a b)
+  gate_command g a b = serve_bit p (λ bk. gate_call g p (bit_at bk a, bit_at bk b)) (fits (Gated g a b)) (Pre (Gated g a b)) (OneReading (Gated g a b)) (λ xs. Unit {0}) (λ xs. tabled g (get_or xs a 0, get_or xs b 0)) record {
+    law = law_on p pair bit_number_of (gate_call g p) numbers_of (λ bk. (bit_at bk a, bit_at bk b)) (λ xs. (get_or xs a 0, get_or xs b 0)) (λ ρ bk i. (bit_same ρ bk a i, bit_same ρ bk b i)) Bits (Is (tabled g)) (λ x. Unit {0}) (tabled g)
+        (function_law p pair bit_number_of (gate_call g p) Bits (Is (tabled g)) (tabled g) (λ x h. refl) (λ x y h r. r) (gate_function g p P two));
+    sees = λ bk h o t. gate_sees g p h o (bit_at bk a) (bit_at bk b) (there_bit_at h bk a t) (there_bit_at h bk b t);
+    tidy = λ bk. gate_tidy g p P.0 (bit_at bk a) (bit_at bk b);
+    steady = λ bk. gate_steady g p (bit_at bk a) (bit_at bk b);
+    proper = λ n k bk o r q. gate_real g p n k (bit_at bk a) (bit_at bk b) o (real_bit_at bk a r) (real_bit_at bk b r) q;
+    pre = λ bk xs h. (all_bits bk xs h a, all_bits bk xs h b);
+  } (λ bk xs h r q. subst (λ (x : ℕ). x ≤ 1) (sym q) (bit_at_most _))
+
+  -- a clone asks for nothing, and is of its original's kind
+  clone_command : (a : ℕ) → Serves (Clone a)
+  clone_command a = record {
+    law = law_one_clone;
+    sees = λ bk h o t. (there_at h bk a t, tt);
+    tidy = λ bk. tt;
+    steady = λ bk. tt;
+    real = λ n k bk os r q. subst (Each Real) (first_of (answer_at bk a ∷ []) os n k q) (real_at bk a r, tt);
+    kinds_are = λ n k bk os f q. ap kinds (sym (first_of (answer_at bk a ∷ []) os n k q))
+        ∙ ap (λ x. x ∷ []) (sym (get_or-map kind_of bk a (Bit (Constant false)) a_number (there bk (true-ltb a (length (kinds bk)) (sym f)))));
+    pre = λ bk xs h. tt;
+    bounded = bounded;
+  }
+    where
+      there : (bk : List Answer) → a < length (kinds bk) → a < length bk
+      there bk h = omega (arith, length-map bk kind_of)
+
+      law_one_clone : Law p numbers_of numbers_of (command_script p (Clone a)) (Pre (Clone a)) (Reading (Clone a)) (Solvable (Clone a)) (computed (Clone a))
+      law_one_clone = law_one p numbers_of number_of number_of (λ x. x) (λ ρ x. refl) (λ bk. answer (answer_at bk a)) (λ xs. Unit {0}) (OneReading (Clone a)) (λ xs. Unit {0}) (λ xs. get_or xs a 0)
+          (function_law p numbers_of number_of (λ bk. answer (answer_at bk a)) (λ xs. Unit {0}) (OneReading (Clone a)) (λ xs. get_or xs a 0) (λ xs h. refl) (λ xs y h r. r)
+          (function_pure p numbers_of number_of (λ bk. answer (answer_at bk a)) (λ xs. Unit {0}) (λ xs. get_or xs a 0) (λ bk. tt) (λ ρ low bk h. answer_same ρ bk a)))
+
+      bounded : (bk os : List Answer) (old new : List ℕ) → Along BoundedByKind bk old → length new ≡ length os → Reading (Clone a) old new → Along BoundedByKind os new
+      bounded bk os old [] h l q = absurd q
+      bounded bk [] old (r ∷ []) h l q = absurd (omega arith)
+      bounded bk (Bit b ∷ []) old (r ∷ []) h l q = (subst (λ (x : ℕ). x ≤ 1) (sym q) (all_bits bk old h a), tt)
+      bounded bk (o ∷ o₁ ∷ os) old (r ∷ []) h l q = absurd (omega arith)
+      bounded bk os old (r ∷ s ∷ new) h l q = absurd q
+
+  pub served : (c : Command) → Serves c
+  served (BitCommand m v) = bit_command m v
+  served (Clone a) = clone_command a
+  served (Not a) = not_command a
+  served (Gated g a b) = gate_command g a b
+
+-- ---- answers
+pub local : (h : There) (ρ σ : Val) → Agree h ρ σ → (o : Answer) → NamesThere h o → number_of σ o ≡ number_of ρ o
+local h ρ σ g (Bit (Constant b)) t = refl
+local h ρ σ g (Bit (Var a)) t = g a.variable t
+
+pub wider : (h k : There) → Wider h k → (o : Answer) → NamesThere h o → NamesThere k o
+wider h k w (Bit (Constant b)) t = tt
+wider h k w (Bit (Var a)) t = w a.variable t

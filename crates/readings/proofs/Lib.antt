@@ -1,5 +1,5 @@
-pub mod Rows
-pub mod BitLaws
+pub mod OnBook
+pub mod Proper
 pub mod CommandLaws
 pub mod Bills
 pub mod Step

@@ -1,30 +1,24 @@
 -- One command more keeps what runs keep.
-use Rattle.std.proofs.Common.{◌≡◌, ℕ, zero, suc, ◌+◌, ◌<◌, Bool, true, false, cond, leb, List, [], ◌∷◌, ◌++◌, length, Some, None, Ok, Err, Option, Result, sym, refl, ap, ◌∙◌, subst, arith}
+use Rattle.std.proofs.Common.{◌≡◌, ℕ, suc, ◌+◌, ◌<◌, Bool, true, false, cond, leb, List, [], ◌∷◌, ◌++◌, length, Some, None, Ok, Err, Option, Result, sym, refl, ap, ◌∙◌, subst, arith, ◌≤◌, leb-true}
 use lib.ListN.{length-map}
 use lib.Seq.{get_or_at}
-use borrow.Author.Tests.{true-ltb}
-use Rattle.std.proofs.lemmas.List.{get_or-map}
 use Rattle.arith.specs.Number.{Prime}
 use Rattle.relations.specs.declared.term.Variable.{Variable}
-use Rattle.relations.specs.declared.term.Variable.TheVariants.{Combination}
 use Rattle.relations.specs.declared.fault.GadgetFault.{GadgetFault}
 use Rattle.relations.specs.declared.fault.GadgetFault.TheVariants.{NoValue}
 use Rattle.relations.specs.Meaning.{Meaning, Fresh, Grows, has, assigned, next_of, with_new, number}
 use Rattle.relations.specs.declared.term.Side.{Side}
 use Rattle.relations.specs.declared.term.Side.TheVariants.{Input as input, Witness as witness}
-use Rattle.relations.specs.Sum.{row_of, sum_of}
+use Rattle.relations.specs.Sum.{row_of}
 use Rattle.relations.specs.Terms.{just, one_less}
-use Rattle.relations.specs.Script.{Script, answer, refuse, allocate, combine, row, then, run, restored, over}
+use Rattle.relations.specs.Script.{Script, answer, allocate, row, then, run, restored, over}
 use Rattle.boolean.specs.declared.mode.AllocationMode.{AllocationMode}
 use Rattle.boolean.specs.declared.mode.AllocationMode.TheVariants.{Constant as as_constant, Input as as_input, Witness as as_witness}
-use Rattle.allocated.specs.declared.gate.Gate.{Gate}
-use Rattle.allocated.specs.declared.gate.Gate.TheVariants.{And, Or, Xor}
 use Rattle.boolean.specs.declared.bits.Boolean.{Boolean}
 use Rattle.boolean.specs.declared.bits.Boolean.TheVariants.{Constant, Var}
 use Rattle.allocated.specs.Gates.{bit_number}
-use Rattle.boolean.specs.Booleans.{alloc_script, not_script}
+use Rattle.boolean.specs.Booleans.{alloc_script}
 use Rattle.command.specs.declared.commands.Kind.{Kind}
-use Rattle.command.specs.declared.commands.Kind.TheVariants.{Bit as a_bit, Number as a_number}
 use Rattle.command.specs.declared.commands.Command.{Command}
 use Rattle.command.specs.declared.commands.Command.TheVariants.{Bit as BitCommand, Clone, Not, Gated}
 use Rattle.command.specs.declared.answers.Answer.{Answer}
@@ -32,123 +26,23 @@ use Rattle.command.specs.declared.answers.Answer.TheVariants.{Bit}
 use Rattle.command.specs.declared.fault.TapeFault.{TapeFault}
 use Rattle.command.specs.declared.fault.TapeFault.TheVariants.{Gadget, Operand, BookFull}
 use Rattle.command.specs.Decide.{fits, answers, checked}
-use Rattle.command.specs.Answers.{kind_of, kinds, mode_of, value_of, answer_at, as_bit, bit_at, command_script}
+use Rattle.command.specs.Answers.{kind_of, kinds, mode_of, value_of, command_script}
 use Rattle.laws.specs.Law.{Val, Given}
 use Rattle.laws.specs.History.{accepted, Each, Kept}
-use Rattle.laws.specs.Bill.{Next, past, past_terms, named, names, ends, settled, account}
+use Rattle.laws.specs.Bill.{names, ends, settled, account}
 use Rattle.laws.proofs.Trace.{Keeps, allocated, enforced, refused as ruled}
+use Rattle.laws.proofs.Frame.{sees_names}
 use Rattle.laws.proofs.Link.{run_grows}
 use Rattle.laws.proofs.Own.{assigned_grows, assigned_row}
 use Rattle.laws.proofs.Settle.{settles_ok, settles_err, ends_run}
 use Rattle.laws.proofs.Theorem.{start, step_refused, step_accepted, faithful, nums_same}
-use Rattle.readings.specs.Readings.{bit_number_of, number_of, numbers_of, Reading, BoundedByKind, NamesThere}
+use Rattle.bit_laws.specs.Bits.{bit_number_of}
+use Rattle.readings.specs.Readings.{number_of, numbers_of, Reading, BoundedByKind, NamesThere}
 use Rattle.readings.specs.Decision.{bill, by_bill, by_check, Real}
 use Rattle.readings.specs.State.{State, state, filed, performed, executed}
 use Rattle.readings.specs.Runs.{History, entries, decided, begins, accepts, refuses, GivenBy, Tells, Running, Promise, Stepped}
-use Rattle.readings.proofs.BitLaws.{gate_call}
-use Rattle.readings.proofs.CommandLaws.{Pre, computed, law, names as all_named, sees, local, wider, tidy, steady, pre_of, kinds_of}
+use Rattle.readings.proofs.CommandLaws.{Pre, Solvable, computed, Serves, served, local, wider}
 use Rattle.readings.proofs.Bills.{billed_so}
-
--- ---- the shape of the answers
-abbrev answered : Script Boolean → Script (List Answer)
-answered s = then (then s (λ b. answer (Bit b))) (λ x. answer (x ∷ []))
-
-none_some : {A B : Type 0} {x : B} → ◌≡◌ {A = Option B} None (Some x) → A
-none_some e = let z : ◌≡◌ {A = ℕ} 0 1 = cc e in absurd (omega arith)
-
--- the one answer of a call on bits
-pub record Single (p : ℕ) (n : Next) (s : Script Boolean) (os : List Answer) : Type 0 where
-  pub bit : Boolean
-  pub after : Next
-  pub is : os ≡ Bit bit ∷ []
-  pub ends_so : ends p n s ≡ Some (bit, after)
-
-single : (p : ℕ) (n k : Next) (s : Script Boolean) (os : List Answer) → ends p n (answered s) ≡ Some (os, k) → Single p n s os
-single p n k (answer b) os e = record { bit = b; after = n; is = ap (λ (o : Option (List Answer × Next)). from o) (sym e); ends_so = refl }
-  where
-    from : Option (List Answer × Next) → List Answer
-    from None = []
-    from (Some x) = x.0
-single p n k (refuse f) os e = none_some e
-single p n k (allocate d vs f c) os e = let r = single p (past d n) k (c (named d n)) os e in record { bit = r.bit; after = r.after; is = r.is; ends_so = r.ends_so }
-single p n k (combine ts c) os e = let r = single p (past_terms (sum_of p ts).size n) k (c (Combination (n.place + (sum_of p ts).size))) os e in record { bit = r.bit; after = r.after; is = r.is; ends_so = r.ends_so }
-single p n k (row a b c s) os e = let r = single p n k s os e in record { bit = r.bit; after = r.after; is = r.is; ends_so = r.ends_so }
-
-first_of : {A : Type 0} (x y : A) (n k : Next) → ◌≡◌ {A = Option (A × Next)} (Some (x, n)) (Some (y, k)) → x ≡ y
-first_of {A} x y n k e = let q : ◌≡◌ {A = A × Next} (x, n) (y, k) = cc e in ap (λ z. z.0) q
-
--- ---- answers are constants, or name inputs, witnesses or combinations
-abbrev RealBit : Boolean → Type 0
-RealBit b = Real (Bit b)
-
-real_is : (b c : Boolean) (n k : Next) → RealBit b → ◌≡◌ {A = Option (Boolean × Next)} (Some (b, n)) (Some (c, k)) → RealBit c
-real_is b c n k r e = subst RealBit (first_of b c n k e) r
-
-not_real : (p : ℕ) (n k : Next) (a b : Boolean) → ends p n (not_script p a) ≡ Some (b, k) → RealBit b
-not_real p n k (Constant x) b e = real_is (Constant _) b n k tt e
-not_real p n k (Var a) b e = real_is (Var _) b _ k refl e
-
-new_real : (p : ℕ) (n k : Next) (m : AllocationMode) (o : Option Bool) (b : Boolean) → ends p n (alloc_script p m o) ≡ Some (b, k) → RealBit b
-new_real p n k as_constant None b e = none_some e
-new_real p n k as_constant (Some x) b e = real_is (Constant x) b n k tt e
-new_real p n k as_input o b e = real_is (Var _) b _ k refl e
-new_real p n k as_witness o b e = real_is (Var _) b _ k refl e
-
-gate_real : (g : Gate) (p : ℕ) (n k : Next) (a c b : Boolean) → RealBit a → RealBit c → ends p n (gate_call g p (a, c)) ≡ Some (b, k) → RealBit b
-gate_real And p n k (Constant true) c b ra rc e = real_is c b n k rc e
-gate_real And p n k (Constant false) c b ra rc e = real_is (Constant false) b n k tt e
-gate_real And p n k (Var a) (Constant true) b ra rc e = real_is (Var a) b n k ra e
-gate_real And p n k (Var a) (Constant false) b ra rc e = real_is (Constant false) b n k tt e
-gate_real And p n k (Var a) (Var c) b ra rc e = real_is (Var _) b _ k refl e
-gate_real Or p n k (Constant true) c b ra rc e = real_is (Constant true) b n k tt e
-gate_real Or p n k (Constant false) c b ra rc e = real_is c b n k rc e
-gate_real Or p n k (Var a) (Constant true) b ra rc e = real_is (Constant true) b n k tt e
-gate_real Or p n k (Var a) (Constant false) b ra rc e = real_is (Var a) b n k ra e
-gate_real Or p n k (Var a) (Var c) b ra rc e = real_is (Var _) b _ k refl e
-gate_real Xor p n k (Constant true) c b ra rc e = not_real p n k c b e
-gate_real Xor p n k (Constant false) c b ra rc e = real_is c b n k rc e
-gate_real Xor p n k (Var a) (Constant true) b ra rc e = not_real p n k (Var a) b e
-gate_real Xor p n k (Var a) (Constant false) b ra rc e = real_is (Var a) b n k ra e
-gate_real Xor p n k (Var a) (Var c) b ra rc e = real_is (Var _) b _ k refl e
-
-real_at : (bk : List Answer) (a : ℕ) → Each Real bk → Real (answer_at bk a)
-real_at [] a e = tt
-real_at (x ∷ bk) zero e = e.0
-real_at (x ∷ bk) (suc a) e = real_at bk a e.1
-
-real_bit : (x : Answer) → Real x → RealBit (as_bit x)
-real_bit (Bit b) r = r
-
--- what an accepted command answers: one answer, and it is real
-pub record AnswersOne (bk os : List Answer) (c : Command) : Type 0 where
-  pub one : Answer
-  pub is : os ≡ one ∷ []
-  pub real : Real one
-  pub kind : fits c (kinds bk) ≡ true → kinds os ≡ answers c (kinds bk)
-
-listed : (bk os : List Answer) (c : Command) (b : Boolean) → os ≡ Bit b ∷ [] → RealBit b → answers c (kinds bk) ≡ a_bit ∷ [] → AnswersOne bk os c
-listed bk os c b e r q = record { one = Bit b; is = e; real = r; kind = λ h. ap kinds e ∙ sym q }
-
-pub answers_one : (p : ℕ) (n k : Next) (c : Command) (bk os : List Answer) → Each Real bk → ends p n (command_script p c bk) ≡ Some (os, k) → AnswersOne bk os c
-answers_one p n k (BitCommand m v) bk os r e =
-    let s = single p n k (alloc_script p (mode_of m) (value_of v)) os e in
-    listed bk os (BitCommand m v) s.bit s.is (new_real p n s.after (mode_of m) (value_of v) s.bit s.ends_so) refl
-answers_one p n k (Clone a) bk os r e = record {
-  one = answer_at bk a;
-  is = sym (first_of (answer_at bk a ∷ []) os n k e);
-  real = real_at bk a r;
-  kind = λ h. ap kinds (sym (first_of (answer_at bk a ∷ []) os n k e))
-      ∙ ap (λ x. x ∷ []) (sym (get_or-map kind_of bk a (Bit (Constant false)) a_number (there bk a (true-ltb a (length (kinds bk)) (sym h)))));
-}
-  where
-    there : (bk : List Answer) (a : ℕ) → a < length (kinds bk) → a < length bk
-    there bk a h = omega (arith, length-map bk kind_of)
-answers_one p n k (Not a) bk os r e =
-    let s = single p n k (not_script p (bit_at bk a)) os e in
-    listed bk os (Not a) s.bit s.is (not_real p n s.after (bit_at bk a) s.bit s.ends_so) refl
-answers_one p n k (Gated g a b) bk os r e =
-    let s = single p n k (gate_call g p (bit_at bk a, bit_at bk b)) os e in
-    listed bk os (Gated g a b) s.bit s.is (gate_real g p n s.after (bit_at bk a) (bit_at bk b) s.bit (real_bit (answer_at bk a) (real_at bk a r)) (real_bit (answer_at bk b) (real_at bk b r)) s.ends_so) refl
 
 -- ---- the tape's numbers
 answered_is : {A : Type 0} (x y : A) (m n : Meaning) → ◌≡◌ {A = Result A GadgetFault × Meaning} (Ok x, m) (Ok y, n) → x ≡ y
@@ -177,6 +71,9 @@ Said o (r ∷ rs) = Given (bit_number o) r
 said_one : (n : Meaning) (o : Option Bool) (b : Boolean) (os : List Answer) → os ≡ Bit b ∷ [] → Given (bit_number o) (bit_number_of (assigned n) b) → Said o (numbers_of (assigned n) os)
 said_one n o b os e h = subst (λ (l : List Answer). Said o (numbers_of (assigned n) l)) (sym e) h
 
+abbrev answered : Script Boolean → Script (List Answer)
+answered s = then s (λ b. answer (Bit b ∷ []))
+
 said_new : (p : ℕ) (a : AllocationMode) (o : Option Bool) (os : List Answer) (m n : Meaning) → m.keeps ≡ true → run p (answered (alloc_script p a o)) m ≡ (Ok os, n) → Said o (numbers_of (assigned n) os)
 said_new p as_constant None os m n keeps ran = absurd (ruled NoValue m n os ran)
 said_new p as_constant (Some x) os m n keeps ran = said_one n (Some x) (Constant x) os (sym (answered_is (Bit (Constant x) ∷ []) os m n ran)) refl
@@ -194,20 +91,21 @@ given_by p (Not a) bk os m n keeps ran = tt
 given_by p (Gated g a b) bk os m n keeps ran = tt
 
 -- ---- the check before any gadget
-pub record Passed (c : Command) (bk : List Answer) (ks : List Kind) : Type 0 where
+pub record Passed (c : Command) (bk : List Answer) (places : ℕ) (ks : List Kind) : Type 0 where
   pub fit : fits c (kinds bk) ≡ true
   pub are : ks ≡ answers c (kinds bk)
+  pub room : length (kinds bk) + length (answers c (kinds bk)) ≤ places
 
 wrong : {A : Type 0} (f : TapeFault) (ks : List Kind) → ◌≡◌ {A = Result (List Kind) TapeFault} (Err f) (Ok ks) → A
 wrong f ks e = let z : ◌≡◌ {A = ℕ} 0 1 = cc e in absurd (omega arith)
 
-passed : (c : Command) (bk : List Answer) (places : ℕ) (ks : List Kind) → checked c (kinds bk) places ≡ Ok ks → Passed c bk ks
-passed c bk places ks e = go (fits c (kinds bk)) (leb (length (kinds bk) + length (answers c (kinds bk))) places) refl e
+passed : (c : Command) (bk : List Answer) (places : ℕ) (ks : List Kind) → checked c (kinds bk) places ≡ Ok ks → Passed c bk places ks
+passed c bk places ks e = go (fits c (kinds bk)) (leb (length (kinds bk) + length (answers c (kinds bk))) places) refl refl e
   where
-    go : (b d : Bool) → fits c (kinds bk) ≡ b → cond {A = Result (List Kind) TapeFault} b (cond d (Ok (answers c (kinds bk))) (Err BookFull)) (Err Operand) ≡ Ok ks → Passed c bk ks
-    go true true h q = record { fit = h; are = cc q }
-    go true false h q = wrong BookFull ks q
-    go false d h q = wrong Operand ks q
+    go : (b d : Bool) → fits c (kinds bk) ≡ b → leb (length (kinds bk) + length (answers c (kinds bk))) places ≡ d → cond {A = Result (List Kind) TapeFault} b (cond d (Ok (answers c (kinds bk))) (Err BookFull)) (Err Operand) ≡ Ok ks → Passed c bk places ks
+    go true true h l q = record { fit = h; are = cc q; room = leb-true _ _ l }
+    go true false h l q = wrong BookFull ks q
+    go false d h l q = wrong Operand ks q
 
 each_append : {A : Type 0} (P : A → Type 0) (xs ys : List A) → Each P xs → Each P ys → Each P (xs ++ ys)
 each_append P [] ys h k = k
@@ -222,27 +120,27 @@ numbers_long ρ [] = refl
 numbers_long ρ (x ∷ xs) = ap (λ (n : ℕ). suc n) (numbers_long ρ xs)
 
 module _ (p : ℕ) (P : Prime p) (two : 2 < p) where
-  seen : (c : Command) (s : State) → Each (NamesThere (has s.system)) s.book → (ks : List Kind) → checked c (kinds s.book) s.places ≡ Ok ks → decided c s ≡ by_bill ks (settled (bill c s.book) s.system)
-  seen c s t ks e = ap (by_check c s.system s.book) e
+  seen : (c : Command) (s : State) → Each (NamesThere (has s.system)) s.book → (ks : List Kind) → checked c (kinds s.book) s.places ≡ Ok ks → decided p c s ≡ by_bill ks (settled (bill p c s.book) s.system)
+  seen c s t ks e = ap (by_check p c s.system s.book) e
 
   -- a command that is refused before any gadget
-  unfit : (h : History) (s : State) (c : Command) (f : TapeFault) → Running p h s → checked c (kinds s.book) s.places ≡ Err f → decided c s ≡ Err f
-  unfit h s c f k e = ap (by_check c s.system s.book) e
+  unfit : (h : History) (s : State) (c : Command) (f : TapeFault) → Running p h s → checked c (kinds s.book) s.places ≡ Err f → decided p c s ≡ Err f
+  unfit h s c f k e = ap (by_check p c s.system s.book) e
 
   -- the bill of a command that a gadget refuses
-  barred : (h : History) (s : State) (c : Command) (ks : List Kind) (e : GadgetFault) (l : Meaning) → Running p h s → checked c (kinds s.book) s.places ≡ Ok ks → run p (command_script p c s.book) s.system ≡ (Err e, l) → decided c s ≡ Err (Gadget e)
+  barred : (h : History) (s : State) (c : Command) (ks : List Kind) (e : GadgetFault) (l : Meaning) → Running p h s → checked c (kinds s.book) s.places ≡ Ok ks → run p (command_script p c s.book) s.system ≡ (Err e, l) → decided p c s ≡ Err (Gadget e)
   barred h s c ks e l k q ran =
-      ap (by_check c s.system s.book) q
+      ap (by_check p c s.system s.book) q
       ∙ ap (by_bill ks) (ap (λ b. settled b s.system) (sym (billed_so p two s.system c s.book k.real k.kept.book))
-      ∙ settles_err p (command_script p c s.book) s.system l e (λ t os. Each (NamesThere t) os) (sees p c s.book (has s.system) refl k.kept.book) (steady p c s.book) ran)
+      ∙ settles_err p (command_script p c s.book) s.system l e (λ t os. Each (NamesThere t) os) ((served p P two c).sees s.book (has s.system) refl k.kept.book) ((served p P two c).steady s.book) ran)
 
   -- and of one that is accepted
-  cleared : (h : History) (s : State) (c : Command) (os : List Answer) (n : Meaning) → Running p h s → run p (command_script p c s.book) s.system ≡ (Ok os, n) → settled (bill c s.book) s.system ≡ Ok (account n)
+  cleared : (h : History) (s : State) (c : Command) (os : List Answer) (n : Meaning) → Running p h s → run p (command_script p c s.book) s.system ≡ (Ok os, n) → settled (bill p c s.book) s.system ≡ Ok (account n)
   cleared h s c os n k ran =
       ap (λ b. settled b s.system) (sym (billed_so p two s.system c s.book k.real k.kept.book))
-      ∙ settles_ok p (command_script p c s.book) s.system n os (λ t os. Each (NamesThere t) os) (sees p c s.book (has s.system) refl k.kept.book) (steady p c s.book) ran
+      ∙ settles_ok p (command_script p c s.book) s.system n os (λ t os. Each (NamesThere t) os) ((served p P two c).sees s.book (has s.system) refl k.kept.book) ((served p P two c).steady s.book) ran
 
-  pub running_refused : (h : History) (s : State) (c : Command) (f : TapeFault) → Running p h s → decided c s ≡ Err f → Running p ((c, Err f) ∷ h) s
+  pub running_refused : (h : History) (s : State) (c : Command) (f : TapeFault) → Running p h s → decided p c s ≡ Err f → Running p ((c, Err f) ∷ h) s
   running_refused h s c f k e = record {
     run = refuses c f k.run e;
     kept = step_refused p P.0 number_of NamesThere BoundedByKind Reading c (entries h) s.system s.book k.kept;
@@ -252,12 +150,12 @@ module _ (p : ℕ) (P : Prime p) (two : 2 < p) where
 
   pub running_accepted : (h : History) (s : State) (c : Command) (ks : List Kind) (os : List Answer) (n : Meaning) → Running p h s → checked c (kinds s.book) s.places ≡ Ok ks → run p (command_script p c s.book) s.system ≡ (Ok os, n) → Running p ((c, Ok ks) ∷ h) (state n (s.book ++ os) s.places)
   running_accepted h s c ks os n k q ran = record {
-    run = accepts c ks (state n (s.book ++ os) s.places) k.run (ap (by_check c m bk) q ∙ ap (by_bill ks) (cleared h s c os n k ran))
+    run = accepts c ks (state n (s.book ++ os) s.places) k.run (ap (by_check p c m bk) q ∙ ap (by_bill ks) (cleared h s c os n k ran))
         (record { system = grows; paid = cleared h s c os n k ran; answers = os; book = refl; kinds_are = same_kinds; places_are = refl });
     kept = subst (λ (j : ℕ). Kept p number_of NamesThere BoundedByKind Reading (accepted c j ∷ entries h) n (bk ++ os)) many
-        (step_accepted p P.0 number_of NamesThere BoundedByKind Reading local wider (command_script p) Pre (λ d xs. Unit {0}) (λ d xs. computed d xs ∷ []) (law p P two)
-        (λ d b h k. all_named p d b h k.one) (tidy p P.0) (λ d b o m n r. kinds_of d b o) (λ d g b o m n r xs a y. pre_of d b xs a) c (entries h) m n bk os k.kept ran);
-    real = each_append Real bk os k.real (subst (Each Real) (sym one.is) (one.real, tt));
+        (step_accepted p P.0 number_of NamesThere BoundedByKind Reading local wider (command_script p) Pre Solvable computed (λ d. (served p P two d).law)
+        (λ d b h k t. sees_names h (command_script p d b) (λ k os. Each (NamesThere k) os) ((served p P two d).sees b h k.one t)) (λ d b. (served p P two d).tidy b) (λ d b o m n r. (served p P two d).bounded b o) (λ d g b o m n r xs a y. (served p P two d).pre b xs a) c (entries h) m n bk os k.kept ran);
+    real = each_append Real bk os k.real (of_c.real (names m) (names n) bk os k.real ended);
     told = λ keeps. (
       numbers_of (assigned n) bk,
       numbers_of (assigned n) os,
@@ -280,17 +178,24 @@ module _ (p : ℕ) (P : Prime p) (two : 2 < p) where
       kept_so : n.keeps ≡ true → s.system.keeps ≡ true
       kept_so keeps = sym (run_grows p (command_script p c s.book) s.system n os ran).keeps_is ∙ keeps
 
-      one : AnswersOne s.book os c
-      one = answers_one p (names s.system) (names n) c s.book os k.real (ends_run p (command_script p c s.book) s.system n os ran)
+      of_c : Serves p P two c
+      of_c = served p P two c
 
-      good : Passed c s.book ks
-      good = passed c s.book s.places ks q
+      ended : ends p (names s.system) (command_script p c s.book) ≡ Some (os, names n)
+      ended = ends_run p (command_script p c s.book) s.system n os ran
 
       same_kinds : kinds os ≡ ks
-      same_kinds = (answers_one p (names s.system) (names n) c s.book os k.real (ends_run p (command_script p c s.book) s.system n os ran)).kind (passed c s.book s.places ks q).fit ∙ sym (passed c s.book s.places ks q).are
+      same_kinds = let good = passed c s.book s.places ks q in of_c.kinds_are (names s.system) (names n) s.book os good.fit ended ∙ sym good.are
 
       many : length os ≡ length ks
       many = sym (length-map os kind_of) ∙ ap length same_kinds
+
+  -- where a command was checked, its answers find places
+  pub room_of : (c : Command) (m n : Meaning) (bk os : List Answer) (places : ℕ) (ks : List Kind) → checked c (kinds bk) places ≡ Ok ks → run p (command_script p c bk) m ≡ (Ok os, n) → length bk + length os ≤ places
+  room_of c m n bk os places ks q ran =
+      let good = passed c bk places ks q in
+      let same = (served p P two c).kinds_are (names m) (names n) bk os good.fit (ends_run p (command_script p c bk) m n os ran) in
+      omega (arith, good.room, ap length same, length-map os kind_of, length-map bk kind_of)
 
   -- what runs keep is what they promise
   pub promised : (h : History) (s : State) → Running p h s → Promise p h s
@@ -301,15 +206,15 @@ module _ (p : ℕ) (P : Prime p) (two : 2 < p) where
   pub stepped : (h : History) (c : Command) (s t : State) (r : Result (Unit {0}) TapeFault) → executed p c s ≡ (r, t) → Running p h s → Stepped p h c s t r
   stepped h c s t r e k = by_checked (checked c (kinds s.book) s.places) refl e
     where
-      ended : (d : Result (List Kind) TapeFault) (r₁ : Result (Unit {0}) TapeFault) (t₁ : State) → decided c s ≡ d → r₁ ≡ over (λ ks. tt) d → Running p ((c, d) ∷ h) t₁ → ◌≡◌ {A = Result (Unit {0}) TapeFault × State} (r₁, t₁) (r, t) → Stepped p h c s t r
+      ended : (d : Result (List Kind) TapeFault) (r₁ : Result (Unit {0}) TapeFault) (t₁ : State) → decided p c s ≡ d → r₁ ≡ over (λ ks. tt) d → Running p ((c, d) ∷ h) t₁ → ◌≡◌ {A = Result (Unit {0}) TapeFault × State} (r₁, t₁) (r, t) → Stepped p h c s t r
       ended d r₁ t₁ q o n z =
           let n₁ = subst (λ (x : Result (List Kind) TapeFault). Running p ((c, x) ∷ h) t₁) (sym q) n in
           let o₁ = o ∙ ap (over (λ ks. tt)) (sym q) in
-          subst (λ (y : Result (Unit {0}) TapeFault × State). Stepped p h c s y.1 y.0) z (record { outcome = o₁; running = n₁; promise = promised ((c, decided c s) ∷ h) t₁ n₁ })
+          subst (λ (y : Result (Unit {0}) TapeFault × State). Stepped p h c s y.1 y.0) z (record { outcome = o₁; running = n₁; promise = promised ((c, decided p c s) ∷ h) t₁ n₁ })
 
       by_run : (ks : List Kind) → checked c (kinds s.book) s.places ≡ Ok ks → (z : Result (List Answer) GadgetFault) (l : Meaning) → run p (command_script p c s.book) s.system ≡ (z, l) → filed s (restored s.system z l).0 (restored s.system z l).1 ≡ (r, t) → Stepped p h c s t r
       by_run ks q (Ok os) l ran y =
-          ended (Ok ks) (Ok tt) (state l (s.book ++ os) s.places) (ap (by_check c s.system s.book) q ∙ ap (by_bill ks) (cleared h s c os l k ran)) refl (running_accepted h s c ks os l k q ran) y
+          ended (Ok ks) (Ok tt) (state l (s.book ++ os) s.places) (ap (by_check p c s.system s.book) q ∙ ap (by_bill ks) (cleared h s c os l k ran)) refl (running_accepted h s c ks os l k q ran) y
       by_run ks q (Err g) l ran y =
           let d = barred h s c ks g l k q ran in
           ended (Err (Gadget g)) (Err (Gadget g)) s d refl (running_refused h s c (Gadget g) k d) y

@@ -61,23 +61,23 @@ gate_bill And (Var a) (Var b) = takes_variable witness true ∷ (takes_row (row_
 gate_bill Or (Var a) (Var b) = takes_variable witness true ∷ (takes_row (row_terms Or (code a.variable == code b.variable)) ∷ [])
 gate_bill Xor (Var a) (Var b) = takes_variable witness true ∷ (takes_row (row_terms Xor (code a.variable == code b.variable)) ∷ [])
 
-abbrev pub bill : Command → List Answer → List Charge
-bill (BitCommand m v) book = new_bill (mode_of m) (value_of v)
-bill (Clone a) book = []
-bill (Not a) book = not_bill (bit_at book a)
-bill (Gated g a b) book = gate_bill g (bit_at book a) (bit_at book b)
+abbrev pub bill : ℕ → Command → List Answer → List Charge
+bill p (BitCommand m v) book = new_bill (mode_of m) (value_of v)
+bill p (Clone a) book = []
+bill p (Not a) book = not_bill (bit_at book a)
+bill p (Gated g a b) book = gate_bill g (bit_at book a) (bit_at book b)
 
 -- ---- the decision: the kinds of the answers, or the refusal
 abbrev pub by_bill : List Kind → Result Account GadgetFault → Result (List Kind) TapeFault
 by_bill ks (Ok a) = Ok ks
 by_bill ks (Err e) = Err (Gadget e)
 
-abbrev pub by_check : Command → Meaning → List Answer → Result (List Kind) TapeFault → Result (List Kind) TapeFault
-by_check c m book (Ok ks) = by_bill ks (settled (bill c book) m)
-by_check c m book (Err f) = Err f
+abbrev pub by_check : ℕ → Command → Meaning → List Answer → Result (List Kind) TapeFault → Result (List Kind) TapeFault
+by_check p c m book (Ok ks) = by_bill ks (settled (bill p c book) m)
+by_check p c m book (Err f) = Err f
 
-abbrev pub decision : Command → Meaning → List Answer → ℕ → Result (List Kind) TapeFault
-decision c m book places = by_check c m book (checked c (kinds book) places)
+abbrev pub decision : ℕ → Command → Meaning → List Answer → ℕ → Result (List Kind) TapeFault
+decision p c m book places = by_check p c m book (checked c (kinds book) places)
 
 -- an answer is a constant, or names an input, a witness or a combination
 abbrev pub real : Variable → Bool

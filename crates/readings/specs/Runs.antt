@@ -34,24 +34,24 @@ entries [] = []
 entries (e ∷ h) = entry_of e.0 e.1 ∷ entries h
 
 -- the decision of a command where a run has come
-abbrev pub decided : Command → State → Result (List Kind) TapeFault
-decided c s = decision c s.system s.book s.places
+abbrev pub decided : ℕ → Command → State → Result (List Kind) TapeFault
+decided p c s = decision p c s.system s.book s.places
 
 -- what an accepted command does: lists and book only grow, the new answers have the kinds that were decided, and of the rooms
 -- exactly the bill is used
-pub record Grew (c : Command) (s t : State) (ks : List Kind) : Type 0 where
+pub record Grew (p : ℕ) (c : Command) (s t : State) (ks : List Kind) : Type 0 where
   pub system : Grows s.system t.system
-  pub paid : settled (bill c s.book) s.system ≡ Ok (account t.system)
+  pub paid : settled (bill p c s.book) s.system ≡ Ok (account t.system)
   pub answers : List Answer
   pub book : t.book ≡ s.book ++ answers
   pub kinds_are : kinds answers ≡ ks
   pub places_are : t.places ≡ s.places
 
 -- a run: from an empty system and book, each command is decided; an accepted one adds, a refused one changes nothing, and nothing else happens
-pub data Run : History → State → Type 0 where
-  begins : (s : State) → Fresh s.system → s.book ≡ [] → Run [] s
-  accepts : {h : History} {s : State} (c : Command) (ks : List Kind) (t : State) → Run h s → decided c s ≡ Ok ks → Grew c s t ks → Run ((c, Ok ks) ∷ h) t
-  refuses : {h : History} {s : State} (c : Command) (f : TapeFault) → Run h s → decided c s ≡ Err f → Run ((c, Err f) ∷ h) s
+pub data Run (p : ℕ) : History → State → Type 0 where
+  begins : (s : State) → Fresh s.system → s.book ≡ [] → Run p [] s
+  accepts : {h : History} {s : State} (c : Command) (ks : List Kind) (t : State) → Run p h s → decided p c s ≡ Ok ks → Grew p c s t ks → Run p ((c, Ok ks) ∷ h) t
+  refuses : {h : History} {s : State} (c : Command) (f : TapeFault) → Run p h s → decided p c s ≡ Err f → Run p ((c, Err f) ∷ h) s
 
 -- a new bit's answer is the tape's number, where the tape gives one
 abbrev pub GivenBy : Command → List ℕ → Type 0
@@ -68,7 +68,7 @@ Tells ((c, Err f) ∷ h) xs = Tells h xs
 
 -- what is kept from command to command
 pub record Running (p : ℕ) (h : History) (s : State) : Type 0 where
-  pub run : Run h s
+  pub run : Run p h s
   pub kept : Kept p number_of NamesThere BoundedByKind Reading (entries h) s.system s.book
   pub real : Each Real s.book
   pub told : s.system.keeps ≡ true → Tells h (numbers_of (assigned s.system) s.book)
@@ -76,7 +76,7 @@ pub record Running (p : ℕ) (h : History) (s : State) : Type 0 where
 -- what a run promises
 pub record Promise (p : ℕ) (h : History) (s : State) : Type 0 where
   -- outcomes: each command ended as it was decided, and a refused one changed nothing
-  pub outcomes : Run h s
+  pub outcomes : Run p h s
   -- soundness: every assignment that meets the rows gives the answers numbers that obey the readings
   pub sound : (a : Assignment p s.system) → Met p (values s.system a) s.system.rows → Obeys Reading (entries h) (numbers_of (values s.system a) s.book)
   -- completeness: all numbers that obey the readings are given to the answers by some assignment that meets the rows
@@ -88,9 +88,9 @@ pub record Promise (p : ℕ) (h : History) (s : State) : Type 0 where
 
 -- what one command more comes to, where a run with the history h has come to s
 pub record Stepped (p : ℕ) (h : History) (c : Command) (s t : State) (r : Result (Unit {0}) TapeFault) : Type 0 where
-  pub outcome : r ≡ over (λ ks. tt) (decided c s)
-  pub running : Running p ((c, decided c s) ∷ h) t
-  pub promise : Promise p ((c, decided c s) ∷ h) t
+  pub outcome : r ≡ over (λ ks. tt) (decided p c s)
+  pub running : Running p ((c, decided p c s) ∷ h) t
+  pub promise : Promise p ((c, decided p c s) ∷ h) t
 
 -- a refusal leaves the state as it was
 abbrev pub Unchanged : Result (Unit {0}) TapeFault → State → State → Type 0

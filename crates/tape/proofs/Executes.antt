@@ -1,20 +1,20 @@
 -- A command's steps in the code are those of its definition.
-use Rattle.std.proofs.Common.{◌≡◌, ℕ, ◌%◌, List, [], ◌∷◌, ◌++◌, Ok, Err, Result, sym, refl, ap, ◌∙◌}
+use Rattle.std.specs.Result.{is_ok}
+use Rattle.std.proofs.Common.{◌≡◌, ℕ, ◌+◌, ◌%◌, ◌≤◌, List, ◌++◌, length, Ok, Err, Result, sym, refl, ap, ◌∙◌, Bool, true, cond, leb, le-leb, arith}
 use Rattle.relations.specs.declared.fault.GadgetFault.{GadgetFault}
 use Rattle.relations.specs.Meaning.{Meaning}
-use Rattle.relations.specs.Script.{run, whole, over}
-use Rattle.relations.proofs.Then.{whole_over}
+use Rattle.relations.specs.Script.{run, restored, whole, over}
 use Rattle.command.specs.declared.commands.Kind.{Kind}
 use Rattle.command.specs.declared.commands.Command.{Command}
 use Rattle.command.specs.declared.answers.Answer.{Answer}
 use Rattle.command.specs.declared.fault.TapeFault.{TapeFault}
-use Rattle.command.specs.declared.fault.TapeFault.TheVariants.{Gadget}
+use Rattle.command.specs.declared.fault.TapeFault.TheVariants.{Gadget, BookFull}
 use Rattle.command.specs.Decide.{checked}
-use Rattle.command.specs.Answers.{kinds, action, action_script}
+use Rattle.command.specs.Answers.{kinds, action, action_script, command_script}
 use Rattle.arith.specs.Number.{Prime}
 use Rattle.readings.specs.State.{State, state, filed, performed, executed}
 use Rattle.readings.specs.Runs.{History, Running, Stepped}
-use Rattle.readings.proofs.Step.{stepped}
+use Rattle.readings.proofs.Step.{stepped, room_of}
 use Rattle.tape.proofs.Primes.{above_two}
 
 -- an accepted check
@@ -22,18 +22,37 @@ pub passed : (r : Result (List Kind) TapeFault) → ◌≡◌ {A = Result (Unit 
 passed (Ok ks) e = (ks, refl)
 passed (Err f) e = cc e
 
-pub accepted : (p : ℕ) (c : Command) (m n : Meaning) (book after : List Answer) (x : Answer) (places places' : ℕ) → ◌≡◌ {A = Result (Unit {0}) TapeFault} (Ok tt) (over (λ _. tt) (checked c (kinds book) places))
-    → whole (run p (action_script p (action c book))) m ≡ (Ok x, n) → after ≡ book ++ (x ∷ []) → places' ≡ places → executed p c (state m book places) ≡ (Ok tt, state n after places')
-accepted p c m n book after x places places' ok ran e f =
+pub accepted : (p : ℕ) (c : Command) (m n : Meaning) (book after os : List Answer) (places places' : ℕ) → ◌≡◌ {A = Result (Unit {0}) TapeFault} (Ok tt) (over (λ _. tt) (checked c (kinds book) places))
+    → whole (run p (action_script p (action c book))) m ≡ (Ok os, n) → after ≡ book ++ os → places' ≡ places → executed p c (state m book places) ≡ (Ok tt, state n after places')
+accepted p c m n book after os places places' ok ran e f =
     ap (performed p c (state m book places)) (passed (checked c (kinds book) places) ok).1
-    ∙ ap (λ q. filed (state m book places) q.0 q.1) (whole_over p (action_script p (action c book)) (λ y. y ∷ []) m n (Ok x) ran)
+    ∙ ap (λ q. filed (state m book places) q.0 q.1) ran
     ∙ (λ i. (Ok tt, state n (sym e i) (sym f i)))
 
 pub refused : (p : ℕ) (c : Command) (m n : Meaning) (book : List Answer) (g : GadgetFault) (places : ℕ) → ◌≡◌ {A = Result (Unit {0}) TapeFault} (Ok tt) (over (λ _. tt) (checked c (kinds book) places))
     → whole (run p (action_script p (action c book))) m ≡ (Err g, n) → executed p c (state m book places) ≡ (Err (Gadget g), state n book places)
 refused p c m n book g places ok ran =
     ap (performed p c (state m book places)) (passed (checked c (kinds book) places) ok).1
-    ∙ ap (λ q. filed (state m book places) q.0 q.1) (whole_over p (action_script p (action c book)) (λ y. y ∷ []) m n (Err g) ran)
+    ∙ ap (λ q. filed (state m book places) q.0 q.1) ran
+
+-- where a whole call was accepted its steps were
+steps_ran : (s : Result (List Answer) GadgetFault × Meaning) (m n : Meaning) (os : List Answer) → restored m s.0 s.1 ≡ (Ok os, n) → s ≡ (Ok os, n)
+steps_ran (Ok x, l) m n os e = e
+steps_ran (Err f, l) m n os e = let z : ◌≡◌ {A = Result (List Answer) GadgetFault} (Err f) (Ok os) = ap (λ q. q.0) e in cc z
+
+-- a checked command's answers find places
+pub places_left : (p : ℕ) → Prime p → p % 2 ≡ 1 → (c : Command) (m n : Meaning) (book os : List Answer) (places : ℕ) → ◌≡◌ {A = Result (Unit {0}) TapeFault} (Ok tt) (over (λ _. tt) (checked c (kinds book) places))
+    → whole (run p (action_script p (action c book))) m ≡ (Ok os, n) → length book + length os ≤ places
+places_left p P odd c m n book os places ok ran =
+    let ks = passed (checked c (kinds book) places) ok in
+    room_of p P (above_two p P odd) c m n book os places ks.0 ks.1 (steps_ran (run p (command_script p c book) m) m n os ran)
+
+-- a book that has places for all takes them
+pub extended : (book os now after : List Answer) (places : ℕ) (r : Result (Unit {0}) TapeFault) → now ≡ os → length book + length os ≤ places → r ≡ cond (leb (length book + length now) places) (Ok tt) (Err BookFull) → after ≡ cond (is_ok r) (book ++ now) book → (r ≡ Ok tt) × (after ≡ book ++ os)
+extended book os now after places r same h e f =
+    let t : leb (length book + length now) places ≡ true = le-leb _ _ (omega (arith, h, ap length same)) in
+    let ok : r ≡ Ok tt = e ∙ ap (λ (b : Bool). cond {A = Result (Unit {0}) TapeFault} b (Ok tt) (Err BookFull)) t in
+    (ok, f ∙ ap (λ (x : Result (Unit {0}) TapeFault). cond (is_ok x) (book ++ now) book) ok ∙ ap (λ (l : List Answer). book ++ l) same)
 
 -- what runs promise of a command, from what it does
 pub next_of : (p : ℕ) → Prime p → p % 2 ≡ 1 → (c : Command) (s t : State) (r : Result (Unit {0}) TapeFault) → executed p c s ≡ (r, t) → (h : History) → Running p h s → Stepped p h c s t r

@@ -33,7 +33,7 @@ begun p tape g s before k = record { history = []; reads = nothing; count = refl
 pub gone_on : (E : Type 0) (p : ℕ) (tape : List ℕ) (g : History) (o s t : State) (at n k : ℕ) (before middle after : List Refused) → Next {E = E} p (drop at tape) n s t (Ok (Some k)) middle after → Progress p tape g o s at n before middle → Progress p tape g o t (at + k) (n + 1) before after
 gone_on E p tape g b s t at n k before middle after step r =
     let d = step.0 in
-    let o = decided d.command s in
+    let o = decided p d.command s in
     let more = step.3 (r.history ++ g) r.running in
     record {
       history = (d.command, o) ∷ r.history;

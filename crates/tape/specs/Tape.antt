@@ -43,7 +43,7 @@ abbrev pub Next : {E : Type 0} → ℕ → List ℕ → ℕ → State → State 
 Next p bs n s t (Ok None) before after = (decoded bs ≡ None) × (t ≡ s) × (after ≡ before ++ (line n Unknown ∷ []))
 Next p bs n s t (Ok (Some k)) before after =
     (d : Decoded) × (decoded bs ≡ Some d) × (k ≡ d.length)
-    × ((h : History) → Running p h s → Running p ((d.command, decided d.command s) ∷ h) t × (after ≡ before ++ outcome_line n (decided d.command s)))
+    × ((h : History) → Running p h s → Running p ((d.command, decided p d.command s) ∷ h) t × (after ≡ before ++ outcome_line n (decided p d.command s)))
     × (t ≡ (executed p d.command s).1)
 Next p bs n s t (Err e) before after = (t ≡ s) × (after ≡ before)
 

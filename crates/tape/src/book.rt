@@ -16,7 +16,7 @@ pub struct Book<'a> {
 pub const MOST: usize = 4096;
 
 impl<'a> Book<'a> {
-    ghost use Rattle.std.specs.Prelude.{◌≡◌, min, [], ◌∷◌, ◌++◌, length, if◌then◌else◌, nat_lt};
+    ghost use Rattle.std.specs.Prelude.{◌≡◌, ◌+◌, min, [], ◌++◌, length, if◌then◌else◌, nat_le};
     ghost use Rattle.std.specs.Result.{is_ok};
     ghost use Rattle.command.specs.Answers.{answer_at, bit_at};
     ghost use Rattle.tape.specs.Book.{held_by, places_of};
@@ -66,17 +66,18 @@ impl<'a> Book<'a> {
         bit
     }
 
-    /// One answer more, refused where there is no place for it; a full book stays as it is.
-    pub fn push(&mut self, answer: Answer) -> Result<(), TapeFault>
+    /// More answers, refused where there are not places for all of them; a book that refuses stays as it is.
+    pub fn extend(&mut self, answers: &[Answer]) -> Result<(), TapeFault>
         ensures places { places_of self.new ≡ places_of self.old }
-        ensures pushed { result ≡ (if nat_lt (length (held_by self.old)) (places_of self.old) then Ok tt else Err TapeFault.BookFull) }
-        ensures holds { held_by self.new ≡ (if is_ok result then held_by self.old ++ (answer ∷ []) else held_by self.old) }
+        ensures extended { result ≡ (if nat_le (length (held_by self.old) + length answers.now) (places_of self.old) then Ok tt else Err TapeFault.BookFull) }
+        ensures holds { held_by self.new ≡ (if is_ok result then held_by self.old ++ answers.now else held_by self.old) }
     {
-        if self.len() >= self.places() {
+        let (start, more) = (self.count, answers.len());
+        if more > self.places() || start > self.places() - more {
             return Err(TapeFault::BookFull);
         }
-        self.answers[self.count] = answer;
-        self.count += 1;
+        self.answers[start..start + more].copy_from_slice(answers);
+        self.count = start + more;
         Ok(())
     }
 }

@@ -1,7 +1,8 @@
-ghost use Rattle.std.specs.Prelude.{◌≡◌};
+ghost use Rattle.std.specs.Prelude.{◌≡◌, [], ◌∷◌};
 ghost use Rattle.relations.specs.Meaning.{Ran, Adds, Leaves};
-ghost use Rattle.relations.specs.Script.{run, whole};
+ghost use Rattle.relations.specs.Script.{run, whole, over};
 ghost use Rattle.command.specs.Answers.{action as action_of, action_script};
+ghost use Rattle.command.specs.Listed.{listed};
 ghost use Rattle.tape.specs.Book.{held_by};
 ghost use Rattle.readings.specs.State.{executed};
 ghost use Rattle.readings.specs.Runs.{History, Running, Stepped, Unchanged};
@@ -9,8 +10,8 @@ ghost use Rattle.tape.specs.State.{state_of};
 
 use crate::book::Book;
 use crate::circuit::Circuit;
-use boolean::BooleanCall;
-use command::{Action, Answer, Command, TapeFault, check, mode_of, value_of};
+use boolean::{Boolean, BooleanCall};
+use command::{Action, Answer, Answers, Command, TapeFault, check, mode_of, value_of};
 use field::Field;
 use relations::{GadgetFault, System, call};
 
@@ -34,15 +35,22 @@ fn resolve(command: Command, book: &Book) -> Action
     }
 }
 
+/// A bit as the one answer of a command.
+fn one_bit(bit: Result<Boolean, GadgetFault>) -> Result<Answers, GadgetFault>
+    ensures { over listed result ≡ over (λ b. Answer.Bit b ∷ []) bit }
+{
+    Ok(Answers::one(Answer::Bit(bit?)))
+}
+
 /// The gadget's call that a command asks for.
-fn perform<F: Field, S: System<F>>(cs: &mut S, action: Action) -> Result<Answer, GadgetFault>
-    ensures does { Ran (whole (run F.Field.modulus (action_script F.Field.modulus action))) (S.System.meaning cs.old) result (S.System.meaning cs.new) }
+fn perform<F: Field, S: System<F>>(cs: &mut S, action: Action) -> Result<Answers, GadgetFault>
+    ensures does { Ran (whole (run F.Field.modulus (action_script F.Field.modulus action))) (S.System.meaning cs.old) (over listed result) (S.System.meaning cs.new) }
     ensures adds { Adds S.System.meaning S.System.stored S.System.knows cs.old cs.new }
     ensures leaves { Leaves result (S.System.stored cs.old) (S.System.stored cs.new) }
 {
     match action {
-        Action::Alias(answer) => Ok(answer),
-        Action::Bits(gadget) => call(&gadget, cs).map(Answer::Bit),
+        Action::Alias(answer) => Ok(Answers::one(answer)),
+        Action::Bits(gadget) => one_bit(call(&gadget, cs)),
     }
 }
 
@@ -61,7 +69,7 @@ pub fn execute<F: Field, S: System<F>>(
     let places = circuit.book.places();
     check(command, &circuit.book, places)?;
     let action = resolve(command, &circuit.book);
-    let answer = perform(&mut circuit.system, action)?;
-    circuit.book.push(answer)?;
-    Ok(())
+    let answers = perform(&mut circuit.system, action)?;
+    // No refusal comes from here: the check has found places for all answers.
+    circuit.book.extend(answers.as_slice())
 }

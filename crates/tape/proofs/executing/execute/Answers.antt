@@ -1,5 +1,4 @@
-use Rattle.std.proofs.Common.{◌≡◌, Ok, Err, Result, sym, ap, ◌∙◌, rules, arith}
-use Rattle.std.proofs.lemmas.Grind.{common_steps}
+use Rattle.std.proofs.Common.{subst, ◌≡◌, Ok, Err, Result, sym, ap, ◌∙◌, rules}
 use Rattle.std.proofs.lemmas.Result.{err_from_is_err_and}
 use Rattle.relations.specs.Script.{run, whole, over}
 use Rattle.command.specs.declared.fault.TapeFault.{TapeFault}
@@ -9,7 +8,10 @@ use Rattle.command.specs.Answers.{kinds, action_script}
 use Rattle.tape.specs.Book.{held_by, places_of}
 use Rattle.tape.specs.State.{state_of}
 use Rattle.readings.specs.State.{state, executed}
-use Rattle.tape.proofs.Executes.{accepted, refused, next_of}
+use Rattle.command.specs.Listed.{listed}
+use Rattle.relations.specs.Meaning.{Leaves}
+use Rattle.readings.specs.Runs.{Unchanged}
+use Rattle.tape.proofs.Executes.{accepted, refused, places_left, extended, next_of}
 use Rattle.tape.proofs.executing.execute.Goals as goal
 
 pub returns-in_err-check-clause-runs : goal.returns-in_err-check-clause-runs
@@ -20,44 +22,44 @@ returns-in_err-check-clause-runs g c =
     let does : executed p c.args.command s ≡ (c.from_residual.result, s) = search rules in
     next_of p l.prime l.odd c.args.command s s c.from_residual.result does
 
-pub returns-in_err-answer-clause-does : goal.returns-in_err-answer-clause-does
-returns-in_err-answer-clause-does g c =
+pub returns-in_err-answers-clause-does : goal.returns-in_err-answers-clause-does
+returns-in_err-answers-clause-does g c =
     let p = g.F.Field.modulus in
     let b = c.args.circuit.now.book in
     let m = g.S.System.meaning c.args.circuit.now.system in
     let n = g.S.System.meaning c.perform.new.cs in
     let ok : ◌≡◌ {A = Result (Unit {0}) TapeFault} (Ok tt) (over (λ _. tt) (checked c.args.command (kinds (held_by b)) (places_of b))) =
     c.in_ok-check.ensures ∙ ap (λ k. over (λ _. tt) (checked c.args.command (kinds (held_by b)) k)) c.places-places.ensures in
-    let ran = ap (λ (a : Action). whole (run p (action_script p a)) m) (sym c.resolve-action.ensures) ∙ c.in_err-answer.ensures.does in
-    let q = err_from_is_err_and c.from_residual-in_err-answer.result c.from_residual-in_err-answer.ensures.1 in
-    refused p c.args.command m n (held_by b) c.in_err-answer.field-0.0 (places_of b) ok ran ∙ ap (λ r. (r, state n (held_by b) (places_of b))) (sym (q.1 ∙ ap Err q.2))
+    let ran = ap (λ (a : Action). whole (run p (action_script p a)) m) (sym c.resolve-action.ensures) ∙ c.in_err-answers.ensures.does in
+    let q = err_from_is_err_and c.from_residual-in_err-answers.result c.from_residual-in_err-answers.ensures.1 in
+    refused p c.args.command m n (held_by b) c.in_err-answers.field-0.0 (places_of b) ok ran ∙ ap (λ r. (r, state n (held_by b) (places_of b))) (sym (q.1 ∙ ap Err q.2))
 
-pub returns-in_err-answer-clause-runs : goal.returns-in_err-answer-clause-runs
-returns-in_err-answer-clause-runs g c =
+pub returns-in_err-answers-clause-runs : goal.returns-in_err-answers-clause-runs
+returns-in_err-answers-clause-runs g c =
     let l = g.F.Field.laws in
-    next_of g.F.Field.modulus l.prime l.odd c.args.command _ _ _ (returns-in_err-answer-clause-does g c)
+    next_of g.F.Field.modulus l.prime l.odd c.args.command _ _ _ (returns-in_err-answers-clause-does g c)
 
-pub returns-in_err-push-clause-runs : goal.returns-in_err-push-clause-runs
-returns-in_err-push-clause-runs g c =
+pub returns : goal.returns
+returns g c =
     let p = g.F.Field.modulus in
     let l = g.F.Field.laws in
+    let b = c.args.circuit.now.book in
+    let m = g.S.System.meaning c.args.circuit.now.system in
+    let n = g.S.System.meaning c.perform.new.cs in
+    let os = listed c.in_ok-answers.answers in
     let s = state_of g.S.System.meaning c.args.circuit.now in
-    let t = state_of g.S.System.meaning (record { system = c.perform.new.cs; book = c.push.new.self }) in
-    let does : executed p c.args.command s ≡ (c.from_residual-in_err-push.result, t) = grind (arith, common_steps) in
-    next_of p l.prime l.odd c.args.command s t c.from_residual-in_err-push.result does
-
-pub returns-clause-does : goal.returns-clause-does
-returns-clause-does g c =
-    let p = g.F.Field.modulus in
-    let b = c.args.circuit.now.book in
-    let m = g.S.System.meaning c.args.circuit.now.system in
-    let n = g.S.System.meaning c.perform.new.cs in
+    let t = state_of g.S.System.meaning (record { system = c.perform.new.cs; book = c.extend.new.self }) in
     let ok : ◌≡◌ {A = Result (Unit {0}) TapeFault} (Ok tt) (over (λ _. tt) (checked c.args.command (kinds (held_by b)) (places_of b))) =
     c.in_ok-check.ensures ∙ ap (λ k. over (λ _. tt) (checked c.args.command (kinds (held_by b)) k)) c.places-places.ensures in
-    let ran = ap (λ (a : Action). whole (run p (action_script p a)) m) (sym c.resolve-action.ensures) ∙ c.in_ok-answer.ensures.does in
-    accepted p c.args.command m n (held_by b) (held_by c.push.new.self) c.in_ok-answer.answer (places_of b) (places_of c.push.new.self) ok ran c.in_ok-push.ensures.holds c.push.ensures.places
-
-pub returns-clause-runs : goal.returns-clause-runs
-returns-clause-runs g c =
-    let l = g.F.Field.laws in
-    next_of g.F.Field.modulus l.prime l.odd c.args.command _ _ _ (returns-clause-does g c)
+    let ran = ap (λ (a : Action). whole (run p (action_script p a)) m) (sym c.resolve-action.ensures) ∙ c.in_ok-answers.ensures.does in
+    let room = places_left p l.prime l.odd c.args.command m n (held_by b) os (places_of b) ok ran in
+    let e = extended (held_by b) os c.as_slice.result.now (held_by c.extend.new.self) (places_of b) c.extend.result c.as_slice.ensures room c.extend.ensures.extended c.extend.ensures.holds in
+    let does : executed p c.args.command s ≡ (c.extend.result, t) =
+    accepted p c.args.command m n (held_by b) (held_by c.extend.new.self) os (places_of b) (places_of c.extend.new.self) ok ran e.1 c.extend.ensures.places ∙ ap (λ r. (r, t)) (sym e.0) in
+    record {
+      does = does;
+      adds = c.in_ok-answers.ensures.adds;
+      leaves = subst (λ (r : Result (Unit {0}) TapeFault). Leaves r (g.S.System.stored c.args.circuit.now.system) (g.S.System.stored c.perform.new.cs)) (sym e.0) tt;
+      unchanged = subst (λ (r : Result (Unit {0}) TapeFault). Unchanged r s t) (sym e.0) tt;
+      runs = next_of p l.prime l.odd c.args.command s t c.extend.result does;
+    }

@@ -19,7 +19,7 @@ returns-in-Err g c =
         λ h k.
             let st = c.in-Err.ensures.runs h k in (
               st.running,
-              noted c.args.number (decided d.command s) c.in-Err.fault c.new-in-Err.result (vec_items c.args.refused.now) (vec_items c.reserve.new.self) (vec_items c.push_reserved-in-Err.new.self) st.outcome c.new-in-Err.ensures.command c.new-in-Err.ensures.refusal c.reserve.ensures.items c.push_reserved-in-Err.ensures.items,
+              noted c.args.number (decided g.F.Field.modulus d.command s) c.in-Err.fault c.new-in-Err.result (vec_items c.args.refused.now) (vec_items c.reserve.new.self) (vec_items c.push_reserved-in-Err.new.self) st.outcome c.new-in-Err.ensures.command c.new-in-Err.ensures.refusal c.reserve.ensures.items c.push_reserved-in-Err.ensures.items,
             ),
         ap (λ (z : Result (Unit {0}) TapeFault × State). z.1) (sym c.in-Err.ensures.does),
       );

@@ -17,8 +17,8 @@ use Rattle.allocated.specs.Gates.{bit, truth, applied, either, differ, bit_numbe
 use Rattle.boolean.specs.Booleans.{alloc_script, not_script, call_script}
 use Rattle.laws.specs.Law.{Val, Low, Must, Given, Goes, Forces, Computes, Law}
 use Rattle.laws.proofs.Frame.{Is, Function, Pure, pure_plays, any_plan, function_pure}
-use Rattle.readings.specs.Readings.{bit_number_of, Valued}
-use Rattle.readings.proofs.Rows.{one_less, bit_forced, bit_met, Row, gate_forced, gate_met}
+use Rattle.bit_laws.specs.Bits.{bit_number_of, Valued}
+use Rattle.bit_laws.proofs.Rows.{one_less, bit_forced, bit_met, Row, gate_forced, gate_met}
 
 abbrev pub pair : Val → Boolean × Boolean → ℕ × ℕ
 pair ρ i = (bit_number_of ρ i.0, bit_number_of ρ i.1)

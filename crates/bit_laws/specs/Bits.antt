@@ -1,0 +1,26 @@
+-- The numbers that an assignment gives to bits, and which bits are there.
+use Rattle.std.specs.Prelude.{◌≡◌, ℕ, Bool, true, Some, None, Option}
+use Rattle.relations.specs.declared.term.Variable.{Variable}
+use Rattle.boolean.specs.declared.mode.AllocationMode.{AllocationMode}
+use Rattle.boolean.specs.declared.mode.AllocationMode.TheVariants.{Constant as as_constant, Input as as_input, Witness as as_witness}
+use Rattle.boolean.specs.declared.bits.Boolean.{Boolean}
+use Rattle.boolean.specs.declared.bits.Boolean.TheVariants.{Constant, Var}
+use Rattle.allocated.specs.Gates.{bit}
+use Rattle.laws.specs.Law.{There}
+
+-- the number that an assignment ρ gives to a bit
+abbrev pub bit_number_of : (Variable → ℕ) → Boolean → ℕ
+bit_number_of ρ (Constant b) = bit b
+bit_number_of ρ (Var a) = ρ a.variable
+
+-- a constant is the value that the tape gives
+abbrev pub Valued : AllocationMode → Option Bool → ℕ → Type 0
+Valued as_constant None r = Unit {0}
+Valued as_constant (Some b) r = r ≡ bit b
+Valued as_input o r = Unit {0}
+Valued as_witness o r = Unit {0}
+
+-- what a bit names is there
+abbrev pub ThereBit : There → Boolean → Type 0
+ThereBit h (Constant b) = Unit {0}
+ThereBit h (Var a) = h a.variable ≡ true
