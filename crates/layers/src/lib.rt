@@ -1,0 +1,5 @@
+#![tactic(auto)]
+
+mod quota;
+
+pub use quota::Quota;
