@@ -4,22 +4,22 @@ use Rattle.std.proofs.lemmas.List.{at_drop_more, at_drop_all}
 use Rattle.relations.specs.declared.term.Variable.{Variable}
 use Rattle.relations.specs.Sum.{Row, row_of}
 use Rattle.relations.specs.Meaning.{Meaning, assigned}
-use Rattle.relations.specs.Rows.{Alike, Local, LocalRows}
+use Rattle.relations.specs.Rows.{Agree, Local, LocalRows}
 use Rattle.relations.specs.Unmet.{met, unmet_from}
 use Rattle.layers.specs.Watched.{unmet, fails}
 
 -- ---- rows that are judged by the same numbers
-met_same : (p : ℕ) (h : Variable → Bool) (a b : Variable → ℕ) → Alike h a b → (r : Row) → Local h r.a × Local h r.b × Local h r.c → met p b r ≡ met p a r
+met_same : (p : ℕ) (h : Variable → Bool) (a b : Variable → ℕ) → Agree h a b → (r : Row) → Local h r.a × Local h r.b × Local h r.c → met p b r ≡ met p a r
 met_same p h a b s r l = λ i. eqb ((l.0 a b s i * l.1 a b s i) % p) (l.2 a b s i)
 
-pub unmet_same : (p : ℕ) (h : Variable → Bool) (a b : Variable → ℕ) → Alike h a b → (n : ℕ) (rs : List Row) → LocalRows h rs → unmet_from p b n rs ≡ unmet_from p a n rs
+pub unmet_same : (p : ℕ) (h : Variable → Bool) (a b : Variable → ℕ) → Agree h a b → (n : ℕ) (rs : List Row) → LocalRows h rs → unmet_from p b n rs ≡ unmet_from p a n rs
 unmet_same p h a b s n [] l = refl
 unmet_same p h a b s n (r ∷ rs) l = λ i. cond (met_same p h a b s r l.0 i) (unmet_same p h a b s (n + 1) rs l.1 i) (Some n)
 
 pub local_more : (h k : Variable → Bool) → ((v : Variable) → h v ≡ true → k v ≡ true) → (rs : List Row) → LocalRows h rs → LocalRows k rs
 local_more h k up [] l = tt
 local_more h k up (r ∷ rs) l =
-    let old : (a b : Variable → ℕ) → Alike k a b → Alike h a b = λ a b s v q. s v (up v q) in
+    let old : (a b : Variable → ℕ) → Agree k a b → Agree h a b = λ a b s v q. s v (up v q) in
     ((λ a b s. l.0.0 a b (old a b s), λ a b s. l.0.1 a b (old a b s), λ a b s. l.0.2 a b (old a b s)), local_more h k up rs l.1)
 
 -- ---- rows one after another

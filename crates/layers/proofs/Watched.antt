@@ -12,7 +12,7 @@ use Rattle.relations.specs.declared.fault.SystemFault.{SystemFault}
 use Rattle.relations.specs.declared.fault.SystemFault.TheVariants.{UnknownVariable, TermsFull, MarkRefused}
 use Rattle.relations.specs.Sum.{Row, row_of, sum_of}
 use Rattle.relations.specs.Meaning.{Meaning, Combo, Ran, Grows, number, kept_at, places, assigned, new_variable, keeping, with_new, full, listed, room, new_lc, has_all, used, with_combo, combo_of, enforce, has_row, row_use, rows_full, with_row, rewind, may_cut, cut_to}
-use Rattle.relations.specs.Rows.{reach, Alike, LocalRows, RowsLocal}
+use Rattle.relations.specs.Rows.{reach, Agree, LocalRows, RowsLocal}
 use Rattle.relations.specs.Unmet.{met, unmet_from, first_unmet}
 use Rattle.relations.proofs.Growth.{growing_new, growing_lc}
 use Rattle.laws.proofs.Heads.{places_append}
@@ -34,12 +34,12 @@ kept_reached c (x ∷ cs) xs h = go (eqb c x.sum.size) (ltb c x.sum.size) refl r
         let lt : c < x.sum.size + 1 + places cs = ltb-true c _ h in
         f (lt-ltb _ _ (omega arith))
 
-alike_grown : (m n : Meaning) → Grows m n → Alike (reach m) (assigned m) (assigned n)
-alike_grown m n g One h = refl
-alike_grown m n g Zero h = refl
-alike_grown m n g (Input k) h = ap number (ap (λ (l : List (Option ℕ)). get_or l k None) g.inputs_are ∙ get_or_append_left m.inputs g.inputs None k (ltb-true _ _ h))
-alike_grown m n g (Witness k) h = ap number (ap (λ (l : List (Option ℕ)). get_or l k None) g.witnesses_are ∙ get_or_append_left m.witnesses g.witnesses None k (ltb-true _ _ h))
-alike_grown m n g (Combination c) h = ap (kept_at c) g.combos_are ∙ kept_reached c m.combos g.combos h
+agree_grown : (m n : Meaning) → Grows m n → Agree (reach m) (assigned m) (assigned n)
+agree_grown m n g One h = refl
+agree_grown m n g Zero h = refl
+agree_grown m n g (Input k) h = ap number (ap (λ (l : List (Option ℕ)). get_or l k None) g.inputs_are ∙ get_or_append_left m.inputs g.inputs None k (ltb-true _ _ h))
+agree_grown m n g (Witness k) h = ap number (ap (λ (l : List (Option ℕ)). get_or l k None) g.witnesses_are ∙ get_or_append_left m.witnesses g.witnesses None k (ltb-true _ _ h))
+agree_grown m n g (Combination c) h = ap (kept_at c) g.combos_are ∙ kept_reached c m.combos g.combos h
 
 reach_grown : (m n : Meaning) → Grows m n → (v : Variable) → reach m v ≡ true → reach n v ≡ true
 reach_grown m n g One h = refl
@@ -56,7 +56,7 @@ watched_grown p u m n g e w = record {
 }
   where
     judged : unmet_from p (assigned n) 0 n.rows ≡ unmet_from p (assigned m) 0 m.rows
-    judged = ap (unmet_from p (assigned n) 0) e ∙ unmet_same p (reach m) (assigned m) (assigned n) (alike_grown m n g) 0 m.rows w.local
+    judged = ap (unmet_from p (assigned n) 0) e ∙ unmet_same p (reach m) (assigned m) (assigned n) (agree_grown m n g) 0 m.rows w.local
 
 -- ---- a new variable, and a new combination
 rows_new : (d : Side) (o : Option ℕ) (m : Meaning) → (new_variable d o m).1.rows ≡ m.rows
@@ -154,7 +154,7 @@ first_cut p m i w k r local = go m.keeps
     whole = sym (ap (unmet_from p (assigned m) 0) (take-append-drop r m.rows)) ∙ unmet_append p (assigned m) 0 (take r m.rows) (drop r m.rows)
 
     same : unmet_from p (assigned m) 0 (take r m.rows) ≡ unmet_from p (assigned (cut_to i w k r m)) 0 (take r m.rows)
-    same = unmet_same p (reach (cut_to i w k r m)) (assigned (cut_to i w k r m)) (assigned m) (alike_grown (cut_to i w k r m) m (cut_grown m i w k r)) 0 (take r m.rows) local
+    same = unmet_same p (reach (cut_to i w k r m)) (assigned (cut_to i w k r m)) (assigned m) (agree_grown (cut_to i w k r m) m (cut_grown m i w k r)) 0 (take r m.rows) local
 
     plain : 0 + length (take r m.rows) ≡ length (take r m.rows)
     plain = omega arith

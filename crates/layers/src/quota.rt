@@ -21,6 +21,7 @@ impl<F: Field, S: System<F>> Quota<F, S> {
         ensures means { ⟦<Quota<F, S> as System<F>>⟧.meaning result ≡ quoted limit (S.System.meaning below) }
         ensures stores { ⟦<Quota<F, S> as System<F>>⟧.stored result ≡ S.System.stored below }
         ensures knowing { S.System.knows below → ⟦<Quota<F, S> as System<F>>⟧.knows result }
+        ensures limited { result.limit ≡ limit }
         ensures holds { result.below ≡ below }
     {
         Quota {

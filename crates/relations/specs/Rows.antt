@@ -18,12 +18,12 @@ abbrev pub reach : Meaning → Variable → Bool
 reach m v = reached (length m.inputs) (length m.witnesses) (places m.combos) v
 
 -- b gives these variables the numbers that a gives them
-abbrev pub Alike : (Variable → Bool) → (Variable → ℕ) → (Variable → ℕ) → Type 0
-Alike h a b = (v : Variable) → h v ≡ true → b v ≡ a v
+abbrev pub Agree : (Variable → Bool) → (Variable → ℕ) → (Variable → ℕ) → Type 0
+Agree h a b = (v : Variable) → h v ≡ true → b v ≡ a v
 
 -- a sum's value depends on these variables alone
 abbrev pub Local : (Variable → Bool) → Sum → Type 0
-Local h s = (a b : Variable → ℕ) → Alike h a b → s.value b ≡ s.value a
+Local h s = (a b : Variable → ℕ) → Agree h a b → s.value b ≡ s.value a
 
 -- so do the values of all sums of some rows
 abbrev pub LocalRows : (Variable → Bool) → List Row → Type 0

@@ -5,7 +5,7 @@ use Rattle.relations.specs.declared.term.Variable.{Variable}
 use Rattle.relations.specs.declared.term.Variable.TheVariants.{One, Input, Witness, Combination}
 use Rattle.relations.specs.Sum.{Pairs, decode, code_in, all_in, value}
 use Rattle.relations.specs.Meaning.{places}
-use Rattle.relations.specs.Rows.{reached, Alike, LocalRows, RowsLocal, RowsFit}
+use Rattle.relations.specs.Rows.{reached, Agree, LocalRows, RowsLocal, RowsFit}
 use Rattle.words.specs.Words.{Triple, rows, meant, triples_in}
 use Rattle.words.specs.State.{State, Fit, view}
 use Rattle.words.proofs.Cuts.{rows_are, triple_each}
@@ -22,7 +22,7 @@ code_reached i w e c h = go (eqb (c % 8) 1) (eqb (c % 8) 2) (eqb (c % 8) 3) h
     go false false false q = refl
 
 -- the value of terms depends on what they name
-value_local : (p i w e : ℕ) (a b : Variable → ℕ) → Alike (reached i w e) a b → (ts : Pairs) → all_in i w e ts ≡ true → value p (λ c. b (decode c)) ts ≡ value p (λ c. a (decode c)) ts
+value_local : (p i w e : ℕ) (a b : Variable → ℕ) → Agree (reached i w e) a b → (ts : Pairs) → all_in i w e ts ≡ true → value p (λ c. b (decode c)) ts ≡ value p (λ c. a (decode c)) ts
 value_local p i w e a b same [] h = refl
 value_local p i w e a b same (t ∷ ts) h =
     let q = and_parts _ _ h in
