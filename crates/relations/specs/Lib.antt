@@ -1,6 +1,7 @@
 pub mod Sum
 pub mod Fault
 pub mod Meaning
+pub mod Rows
 pub mod Unmet
 pub mod Script
 pub mod Told

@@ -1,6 +1,7 @@
 ghost use Rattle.std.specs.Prelude.{◌≡◌, length};
 ghost use Rattle.std.specs.Option.{option_map};
 ghost use Rattle.relations.specs.Meaning.{Meaning, Stored, Ran, ask, new_variable, new_lc, admit, enforce, rewind, cut, Adds, Leaves, Cuts, Sane};
+ghost use Rattle.relations.specs.Rows.{RowsFit, RowsLocal};
 ghost use Rattle.relations.specs.Unmet.{is_met};
 ghost use Rattle.relations.specs.Told.{told};
 
@@ -47,9 +48,13 @@ pub trait System<F: Field> {
     fn value(&self, variable: Variable) -> Result<Option<F>, SystemFault>
         ensures { told F.Field.number result ≡ (ask variable (meaning self.now)).0 };
 
+    // What holds of the rows whatever calls were made is told here, to the layers above: a layer has its own limit to compare with the
+    // rows' number, or remembers which of them are met while variables are added.
     /// How many rows there are.
     fn row_count(&self) -> u32
-        ensures { result ≡ length (meaning self.now).rows };
+        ensures count { result ≡ length (meaning self.now).rows }
+        ensures fit { RowsFit (meaning self.now) }
+        ensures local { RowsLocal (meaning self.now) };
 
     /// Whether the kept values meet a row; none where no values are kept, or there is no such row.
     fn is_met(&self, row: u32) -> Option<bool>

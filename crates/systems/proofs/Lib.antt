@@ -1,4 +1,5 @@
 pub mod Views
+pub mod Rows
 pub mod Grown
 pub mod Calls
 pub mod Variables

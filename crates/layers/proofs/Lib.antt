@@ -1,0 +1,3 @@
+pub mod Quoted
+pub mod Firsts
+pub mod Watched

@@ -1,0 +1,7 @@
+#![tactic(auto)]
+
+mod quota;
+mod watch;
+
+pub use quota::Quota;
+pub use watch::Watch;
