@@ -1,8 +1,8 @@
-ghost use Rattle.std.specs.Prelude.{◌≡◌, ℕ, List, [], ◌∷◌};
+ghost use Rattle.std.specs.Prelude.{◌≡◌, ℕ, List, [], ◌∷◌, IfOk};
 ghost use Rattle.std.specs.Option.{option_map};
 ghost use Rattle.relations.specs.Meaning.{Ran, Adds, Leaves, ask};
 ghost use Rattle.relations.specs.declared.term.Side.TheVariants.{Witness as witness};
-ghost use Rattle.relations.specs.Script.{Script, run, row, answer};
+ghost use Rattle.relations.specs.Script.{Script, run, row, answer, over};
 ghost use Rattle.relations.specs.Told.{told};
 ghost use Rattle.allocated.specs.Gates.{bit, truth, gated, applied, chosen, bit_number, allocated, loose_script, booleanity, new_bit, gate_script, not_allocated, difference_rows, choice_script};
 
@@ -85,6 +85,16 @@ impl LooseBit {
         let LooseBit { variable } = self;
         let value = cs.value(variable);
         (LooseBit { variable }, value)
+    }
+
+    /// The bit beside the answer of a call that comes before its row. A fault spends the bit: what is refused makes no bit.
+    pub fn beside<A, E>(self, outcome: Result<A, E>) -> Result<(LooseBit, A), E>
+        ensures bit { IfOk result (λ r. r.0 ≡ self) }
+        ensures answer { outcome ≡ over (λ r. r.1) result }
+    {
+        let LooseBit { variable } = self;
+        let answer = outcome?;
+        Ok((LooseBit { variable }, answer))
     }
 
     // Three slices, which the gates hand over as three literals.
