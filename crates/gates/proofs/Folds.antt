@@ -1,14 +1,14 @@
 -- Loops over the members of a gate: what is left of them, and what came of those before.
-use Rattle.std.proofs.Common.{◌≡◌, ℕ, ◌+◌, ◌-◌, ◌<◌, Bool, true, false, cond, ◌&&◌, List, [], ◌∷◌, length, get_or, take, drop, Some, None, Option, refl, sym, ap, ◌∙◌, add-one, drop-cons, length-drop}
+use Rattle.std.proofs.Common.{◌≡◌, ℕ, ◌+◌, ◌-◌, ◌<◌, Bool, true, false, cond, ◌&&◌, List, ◌∷◌, length, get_or, take, drop, Some, None, Option, refl, sym, ap, ◌∙◌, add-one, drop-cons, length-drop}
 use Rattle.std.proofs.Math.Seq.{take-length}
 use Rattle.relations.specs.Script.{answer, then}
-use Rattle.allocated.specs.Gates.{either, applied}
+use Rattle.allocated.specs.Gates.{either}
 use Rattle.boolean.specs.declared.bits.Boolean.{Boolean}
 use Rattle.boolean.specs.declared.bits.Boolean.TheVariants.{Constant}
 use Rattle.boolean.specs.Booleans.{as_var}
 use Rattle.gates.specs.declared.wide.Wide.{Wide}
 use Rattle.gates.specs.declared.wide.Wide.TheVariants.{And, Or}
-use Rattle.gates.specs.Kary.{gate_of, joined, all_of, any_of, all_constant, told_all, summed_script, sum_script, compared}
+use Rattle.gates.specs.Kary.{joined, all_of, any_of, all_constant, told_all, summed_script, sum_script, compared}
 
 -- a truth value with some more
 abbrev pub joined_with : Wide → Bool → List Bool → Bool
@@ -18,19 +18,6 @@ joined_with Or v bs = either v (any_of bs)
 -- what a gate of constants comes to, where those before the members bs came to v
 abbrev pub folds : Wide → Bool → List Boolean → Option Bool
 folds g v bs = cond (all_constant bs) (Some (joined_with g v (told_all bs))) None
-
-joined_more : (g : Wide) (v b : Bool) (bs : List Bool) → joined_with g v (b ∷ bs) ≡ joined_with g (applied (gate_of g) v b) bs
-joined_more And true b bs = refl
-joined_more And false b bs = refl
-joined_more Or true b bs = refl
-joined_more Or false b bs = refl
-
-pub folds_all : (g : Wide) (bs : List Boolean) → folds g (joined g []) bs ≡ cond (all_constant bs) (Some (joined g (told_all bs))) None
-folds_all And bs = refl
-folds_all Or bs = refl
-
-pub folds_more : (g : Wide) (v b : Bool) (bs : List Boolean) → folds g v (Constant b ∷ bs) ≡ folds g (applied (gate_of g) v b) bs
-folds_more g v b bs = ap (λ x. cond (all_constant bs) (Some x) None) (joined_more g v b (told_all bs))
 
 pub next_of : {A : Type 0} (xs : List A) (i : ℕ) (d : A) → i < length xs → drop i xs ≡ get_or xs i d ∷ drop (i + 1) xs
 next_of xs i d h = rw (add-one, drop-cons xs i d)

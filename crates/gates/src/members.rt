@@ -1,6 +1,7 @@
 ghost use Rattle.std.specs.Prelude.{◌≡◌, ℕ, ◌<◌, ◌≤◌, length, MatchOption};
 ghost use Rattle.relations.specs.Meaning.{Ran, Adds};
 ghost use Rattle.relations.specs.Script.{Script, run};
+ghost use Rattle.gates.specs.declared.members.TheConstants.{MOST_MEMBERS};
 ghost use Rattle.gates.specs.Kary.{chain_script, summed_script, kary_script, nand_script, enforce_nand_script};
 
 use crate::sum::{chain_from, compare, sum};
@@ -16,13 +17,13 @@ pub const MOST_MEMBERS: usize = 65;
 #[derive(Clone, Copy)]
 pub struct Members<'a> {
     pub(crate) bits: &'a [Boolean],
-    pub ghost few: { length bits.now ≤ 65 },
+    pub ghost few: { length bits.now ≤ MOST_MEMBERS },
 }
 
 impl<'a> Members<'a> {
     /// Some bits as the members of a gate, unless they are too many.
     pub fn new(bits: &'a [Boolean]) -> Option<Members<'a>>
-        ensures { MatchOption result (65 < length bits.now) (λ m. m.bits.now ≡ bits.now) }
+        ensures { MatchOption result (MOST_MEMBERS < length bits.now) (λ m. m.bits.now ≡ bits.now) }
     {
         if bits.len() <= MOST_MEMBERS {
             Some(Members { bits })

@@ -47,7 +47,7 @@ pub(crate) fn sum<F: Field, S: System<F>>(
     bits: &[Boolean],
     cs: &mut S,
 ) -> Result<Variable, GadgetFault>
-    requires { length bits.now ≤ 65 }
+    requires { length bits.now ≤ MOST_MEMBERS }
     ensures does { Ran (run F.Field.modulus (sum_script bits.now)) (S.System.meaning cs.old) result (S.System.meaning cs.new) }
     ensures adds { Adds S.System.meaning S.System.stored S.System.knows cs.old cs.new }
 {

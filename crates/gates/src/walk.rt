@@ -62,7 +62,7 @@ fn close<F: Field, S: System<F>>(
     last: Boolean,
     cs: &mut S,
 ) -> Result<Boolean, GadgetFault>
-    requires { (count < length bits.old) × (length bits.old ≤ 65) }
+    requires { (count < length bits.old) × (length bits.old ≤ MOST_MEMBERS) }
     ensures does { Ran (run F.Field.modulus (closed_script F.Field.modulus (take count bits.old) last)) (S.System.meaning cs.old) result (S.System.meaning cs.new) }
     ensures adds { Adds S.System.meaning S.System.stored S.System.knows cs.old cs.new }
 {
@@ -84,7 +84,7 @@ fn fall<F: Field, S: System<F>>(
     bit: Boolean,
     cs: &mut S,
 ) -> Result<Boolean, GadgetFault>
-    requires { (count < length bits.old) × (length bits.old ≤ 65) }
+    requires { (count < length bits.old) × (length bits.old ≤ MOST_MEMBERS) }
     ensures does { Ran (run F.Field.modulus (fall_script F.Field.modulus (take count bits.old) last bit)) (S.System.meaning cs.old) result (S.System.meaning cs.new) }
     ensures adds { Adds S.System.meaning S.System.stored S.System.knows cs.old cs.new }
 {
