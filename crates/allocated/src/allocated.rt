@@ -1,15 +1,15 @@
-ghost use Rattle.std.specs.Prelude.{◌≡◌, ℕ, List, [], ◌∷◌};
+ghost use Rattle.std.specs.Prelude.{◌≡◌, ℕ, List, [], ◌∷◌, IfOk};
 ghost use Rattle.std.specs.Option.{option_map};
 ghost use Rattle.relations.specs.Meaning.{Ran, Adds, Leaves, ask};
 ghost use Rattle.relations.specs.declared.term.Side.TheVariants.{Witness as witness};
-ghost use Rattle.relations.specs.Script.{Script, run, row, answer};
+ghost use Rattle.relations.specs.Script.{Script, run, row, answer, over};
 ghost use Rattle.relations.specs.Told.{told};
-ghost use Rattle.allocated.specs.Gates.{bit, truth, gated, applied, bit_number, allocated, loose_script, booleanity, new_bit, gate_script, not_allocated};
+ghost use Rattle.allocated.specs.Gates.{bit, truth, gated, applied, chosen, bit_number, allocated, loose_script, booleanity, new_bit, gate_script, not_allocated, difference_rows, choice_script};
 
 use crate::gate::Gate;
 use field::Field;
 use relations::{
-    GadgetFault, Side, System, SystemFault, Term, Variable, just, minus_one, one_less, times,
+    GadgetFault, Side, System, SystemFault, Term, Variable, just, less, minus_one, one_less, times,
 };
 
 /// A bit that no row forces yet. It can be neither copied nor let go nor made by hand: it becomes a bit of a circuit by being
@@ -57,6 +57,13 @@ fn gate_value<F: Field>(gate: Gate, x: Option<F>, y: Option<F>) -> Option<F>
     Some(element(gate.apply(!a.is_zero(), !b.is_zero())))
 }
 
+fn chosen_value<F: Field>(condition: Option<F>, x: Option<F>, y: Option<F>) -> Option<F>
+    ensures { option_map F.Field.number result ≡ chosen (option_map F.Field.number condition) (option_map F.Field.number x) (option_map F.Field.number y) }
+{
+    let (c, a, b) = (condition?, x?, y?);
+    Some(if c.is_zero() { b } else { a })
+}
+
 impl LooseBit {
     /// A new witness that no row forces yet.
     pub fn new_witness_without_booleanity_check<F: Field, S: System<F>>(
@@ -78,6 +85,16 @@ impl LooseBit {
         let LooseBit { variable } = self;
         let value = cs.value(variable);
         (LooseBit { variable }, value)
+    }
+
+    /// The bit beside the answer of a call that comes before its row. A fault spends the bit: what is refused makes no bit.
+    pub fn beside<A, E>(self, outcome: Result<A, E>) -> Result<(LooseBit, A), E>
+        ensures bit { IfOk result (λ r. r.0 ≡ self) }
+        ensures answer { outcome ≡ over (λ r. r.1) result }
+    {
+        let LooseBit { variable } = self;
+        let answer = outcome?;
+        Ok((LooseBit { variable }, answer))
     }
 
     // Three slices, which the gates hand over as three literals.
@@ -107,6 +124,23 @@ impl LooseBit {
     {
         let v = self.variable;
         self.forced(cs, &one_less::<F>(v), &just(v), &[])
+    }
+
+    /// Moves the bit w into the two rows that make it say whether a sum d is not 0: d * m = w and d * (1 - w) = 0, for a multiplier m.
+    /// Where a row is refused the bit is spent all the same.
+    pub fn enforce_difference<F: Field, S: System<F>>(
+        self,
+        cs: &mut S,
+        difference: &[Term],
+        multiplier: Variable,
+    ) -> Result<AllocatedBool, GadgetFault>
+        ensures does { Ran (run F.Field.modulus (difference_rows F.Field.modulus difference.now multiplier self.variable)) (S.System.meaning cs.old) result (S.System.meaning cs.new) }
+        ensures adds { Adds S.System.meaning S.System.stored S.System.knows cs.old cs.new }
+    {
+        let LooseBit { variable } = self;
+        cs.enforce_constraint(difference, &just(multiplier), &just(variable))?;
+        let complement = cs.new_lc(&one_less::<F>(variable))?;
+        LooseBit { variable }.forced(cs, difference, &just(complement), &[])
     }
 }
 
@@ -166,5 +200,23 @@ impl AllocatedBool {
                 &[times(1, a), times(1, b), times(minus_one::<F>(), w)],
             ),
         }
+    }
+
+    /// A choice between two variables, the first where the bit is one: a witness w, moved into the row c * (a - b) = w - b.
+    pub fn choice_steps<F: Field, S: System<F>>(
+        self,
+        a: AllocatedBool,
+        b: AllocatedBool,
+        cs: &mut S,
+    ) -> Result<AllocatedBool, GadgetFault>
+        ensures does { Ran (run F.Field.modulus (choice_script F.Field.modulus self a b)) (S.System.meaning cs.old) result (S.System.meaning cs.new) }
+        ensures adds { Adds S.System.meaning S.System.stored S.System.knows cs.old cs.new }
+    {
+        let (c, a, b) = (self.variable, a.variable, b.variable);
+        let condition = cs.value(c)?;
+        let x = cs.value(a)?;
+        let y = cs.value(b)?;
+        let w = cs.new_variable(Side::Witness, chosen_value(condition, x, y))?;
+        LooseBit { variable: w }.forced(cs, &just(c), &less::<F>(a, b), &less::<F>(w, b))
     }
 }

@@ -15,7 +15,9 @@ use Rattle.boolean.specs.declared.mode.AllocationMode.TheVariants.{Constant as a
 use Rattle.boolean.specs.declared.bits.Boolean.{Boolean}
 use Rattle.boolean.specs.declared.bits.Boolean.TheVariants.{Constant, Var}
 use Rattle.boolean.specs.declared.bits.BooleanCall.{BooleanCall}
-use Rattle.boolean.specs.declared.bits.BooleanCall.TheVariants.{Allocate, Not, Gated}
+use Rattle.boolean.specs.declared.bits.BooleanCall.TheVariants.{Allocate, Not, Gated, Equality, Choice}
+use Rattle.boolean.specs.declared.bits.BooleanStatement.{BooleanStatement}
+use Rattle.boolean.specs.declared.bits.BooleanStatement.TheVariants.{Equal, Unequal}
 
 -- a script for a variable bit as a script for a Boolean
 abbrev pub as_var : Script AllocatedBool → Script Boolean
@@ -145,3 +147,9 @@ abbrev pub call_script : ℕ → BooleanCall → Script Boolean
 call_script p (Allocate mode value) = alloc_script p mode value
 call_script p (Not a) = not_script p a
 call_script p (Gated g a b) = gated_script g p a b
+call_script p (Equality a b) = is_eq_script p a b
+call_script p (Choice c a b) = select_script p c a b
+
+abbrev pub statement_script : ℕ → BooleanStatement → Script (Unit {0})
+statement_script p (Equal a b c) = equal_script p a b c
+statement_script p (Unequal a b c) = unequal_script p a b c

@@ -15,4 +15,13 @@ pub enum BooleanCall {
     Allocate(AllocationMode, Option<bool>),
     Not(Boolean),
     Gated(Gate, Boolean, Boolean),
+    Equality(Boolean, Boolean),
+    Choice(Boolean, Boolean, Boolean),
+}
+
+/// A statement on bits with its operands, the last of which is the condition under which it holds.
+#[derive(Clone, Copy)]
+pub enum BooleanStatement {
+    Equal(Boolean, Boolean, Boolean),
+    Unequal(Boolean, Boolean, Boolean),
 }

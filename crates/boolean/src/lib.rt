@@ -5,9 +5,14 @@ mod alloc;
 mod bits;
 mod boolean;
 mod calls;
+mod eq;
 mod mode;
+mod select;
+mod statements;
 
 pub use alloc::AllocVar;
 pub use allocated::{AllocatedBool, Gate, LooseBit};
-pub use bits::{Boolean, BooleanCall};
+pub use bits::{Boolean, BooleanCall, BooleanStatement};
+pub use eq::EqGadget;
 pub use mode::AllocationMode;
+pub use select::CondSelectGadget;

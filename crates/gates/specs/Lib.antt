@@ -1,2 +1,3 @@
 pub mod Kary
 pub mod Walk
+pub mod Calls

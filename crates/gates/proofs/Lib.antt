@@ -1,0 +1,3 @@
+pub mod Loops
+pub mod Folds
+pub mod Walks
