@@ -160,13 +160,18 @@ module _ (p : ℕ) (P : Prime p) where
 module _ (p : ℕ) (above : 1 < p) where
   pub differ_neat : (x y : Variable) → Neat p (differ_script p x y) (λ h. Both h (x, y)) ThereAllocated
   differ_neat x y = record {
-    sees = λ h z k. ((k.0, (k.1, tt)), λ h₁ up₁ w hw.
-        ((up₁ x k.0, (up₁ y k.1, tt)), λ h₂ up₂ m hm.
+    sees = λ h z k. (
+      (k.0, (k.1, tt)),
+      λ h₁ up₁ w hw. (
+        (up₁ x k.0, (up₁ y k.1, tt)),
+        λ h₂ up₂ m hm.
             let a : h₂ x ≡ true = up₂ x (up₁ x k.0) in
             let b : h₂ y ≡ true = up₂ y (up₁ y k.1) in
             let c : h₂ One ≡ true = up₂ One (up₁ One z.one) in
             let d : h₂ w ≡ true = up₂ w hw in
-            ((a, (b, tt)), (hm, tt), (d, tt), ((c, (d, tt)), λ h₃ up₃ t ht. ((up₃ x a, (up₃ y b, tt)), (ht, tt), tt, up₃ w d)))));
+            ((a, (b, tt)), (hm, tt), (d, tt), ((c, (d, tt)), λ h₃ up₃ t ht. ((up₃ x a, (up₃ y b, tt)), (ht, tt), tt, up₃ w d))),
+      ),
+    );
     tidy = ((λ ρ low. omega (arith, bit_low (not (eqb (ρ x) (ρ y))))), λ w. ((λ ρ low. multiplier_below p (ρ x) (ρ y) above), λ m t. tt));
     steady = ((λ ρ. refl), λ w. ((λ ρ. refl), λ m t. tt));
   }

@@ -2,8 +2,8 @@
 use Rattle.std.proofs.Common.{◌≡◌, ◌↔◌, ℕ, Bool, true, false, cond, List, [], ◌∷◌, drop, get_or, length, sym, refl, ap, ◌∙◌, subst, arith}
 use Rattle.relations.specs.declared.term.Term.{Term}
 use Rattle.relations.specs.declared.fault.GadgetFault.{GadgetFault}
-use Rattle.relations.specs.Script.{Script, answer, refuse, row, then}
-use Rattle.laws.specs.Law.{Val, Low, RowMet, Must, Goes, Law, There, Constants, Wider, Sees, Tidy, Steady, Orderly, lists}
+use Rattle.relations.specs.Script.{Script, answer, refuse, combine, row, then}
+use Rattle.laws.specs.Law.{Val, Low, RowMet, Must, Goes, Law, There, Constants, TermsThere, Wider, Sees, Tidy, Steady, Orderly, lists}
 use Rattle.laws.proofs.Frame.{must_then, must_mono, plays_mono, goes_then, goes_mono, goes_own, goes_never, Function, Pure, any_plan, pure_plays, nothing, sees_then, tidy_then, steady_then, constants_wider}
 
 -- where the operands' numbers are as P says, the rows force R of them and the answer e; and where R holds, what the script computes meets the rows and answers e
@@ -180,3 +180,7 @@ neat_refuse f KI KO = record { sees = λ h z k. tt; tidy = tt; steady = tt }
 -- a gadget whose scripts are in order
 pub neat_orderly : {p : ℕ} {In Out : Type 0} {g : In → Script Out} {KI : There → In → Type 0} {KO : There → Out → Type 0} → ((i : In) → Neat p (g i) (λ h. KI h i) KO) → Orderly p g KI KO
 neat_orderly a = record { sees = λ h z i. (a i).sees h z; tidy = λ i. (a i).tidy; steady = λ i. (a i).steady }
+
+-- a combination alone, and what it names
+pub neat_combine : {p : ℕ} (ts : List Term) (KI : There → Type 0) → ((h : There) → Constants h → KI h → TermsThere h ts) → Neat p (combine ts (λ v. answer v)) KI (λ h v. h v ≡ true)
+neat_combine ts KI f = record { sees = λ h z k. (f h z k, λ h₁ up v hv. hv); tidy = λ v. tt; steady = λ v. tt }

@@ -5,3 +5,4 @@ pub mod Fixes
 pub mod Choices
 pub mod Statements
 pub mod Differences
+pub mod Chains

@@ -87,7 +87,7 @@ one_under : (p D d c : ℕ) (A : Type 0) → 1 < p → d ≡ c → c ≤ 1 → (
 one_under p D d c A above e hc says = by_bit (λ c. d ≡ c → ((D * d) % p ≡ d % p) ↔ (c ≡ 1 → A))
     (λ e. (λ r q. absurd (omega arith), λ f. ap (λ (t : ℕ). t % p) (ap (λ (t : ℕ). D * t) e ∙ mul-zero D ∙ sym e)))
     (λ e. let z : (D * d) % p ≡ D % p = ap (λ (t : ℕ). t % p) (ap (λ (t : ℕ). D * t) e ∙ mul-one D) in
-      let o : d % p ≡ 1 = ap (λ (t : ℕ). t % p) e ∙ mod-eq_of_lt above in (λ r q. says.0 (sym z ∙ r ∙ o), λ f. z ∙ says.1 (f refl) ∙ sym o))
+    let o : d % p ≡ 1 = ap (λ (t : ℕ). t % p) e ∙ mod-eq_of_lt above in (λ r q. says.0 (sym z ∙ r ∙ o), λ f. z ∙ says.1 (f refl) ∙ sym o))
     c hc e
 
 -- ---- the scripts

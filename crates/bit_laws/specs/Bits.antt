@@ -1,11 +1,14 @@
 -- The numbers that an assignment gives to bits, and which bits are there.
-use Rattle.std.specs.Prelude.{◌≡◌, ◌≢◌, ℕ, ◌≤◌, Bool, true, not, cond, Some, None, Option, ◌==◌}
+use Rattle.std.specs.Prelude.{◌≡◌, ◌≢◌, ℕ, ◌≤◌, Bool, true, false, not, cond, List, [], ◌∷◌, Some, None, Option, ◌==◌}
 use Rattle.relations.specs.declared.term.Variable.{Variable}
 use Rattle.boolean.specs.declared.mode.AllocationMode.{AllocationMode}
 use Rattle.boolean.specs.declared.mode.AllocationMode.TheVariants.{Constant as as_constant, Input as as_input, Witness as as_witness}
 use Rattle.boolean.specs.declared.bits.Boolean.{Boolean}
 use Rattle.boolean.specs.declared.bits.Boolean.TheVariants.{Constant, Var}
 use Rattle.allocated.specs.Gates.{bit, truth}
+use Rattle.gates.specs.declared.wide.Wide.{Wide}
+use Rattle.gates.specs.declared.wide.Wide.TheVariants.{And}
+use Rattle.gates.specs.Kary.{joined}
 use Rattle.laws.specs.Law.{There}
 
 -- the number that an assignment ρ gives to a bit
@@ -50,3 +53,21 @@ UnequalIf x = x.2 ≡ 1 → x.0 ≢ x.1
 -- three bits
 abbrev pub Three : ℕ × ℕ × ℕ → Type 0
 Three x = (x.0 ≤ 1) × (x.1 ≤ 1) × (x.2 ≤ 1)
+
+-- ---- lists of bits
+abbrev pub AllBits : List ℕ → Type 0
+AllBits [] = Unit {0}
+AllBits (x ∷ xs) = (x ≤ 1) × AllBits xs
+
+-- their truth values
+abbrev pub truths : List ℕ → List Bool
+truths [] = []
+truths (x ∷ xs) = truth x ∷ truths xs
+
+-- the number of a gate of many bits
+abbrev pub joined_bit : Wide → List ℕ → ℕ
+joined_bit g xs = bit (joined g (truths xs))
+
+-- not all are one
+abbrev pub NotAll : List ℕ → Type 0
+NotAll xs = joined And (truths xs) ≡ false
