@@ -6,3 +6,5 @@ pub mod Choices
 pub mod Statements
 pub mod Differences
 pub mod Chains
+pub mod Walking
+pub mod Bound

@@ -1,5 +1,5 @@
 -- The numbers that an assignment gives to bits, and which bits are there.
-use Rattle.std.specs.Prelude.{◌≡◌, ◌≢◌, ℕ, ◌≤◌, Bool, true, false, not, cond, List, [], ◌∷◌, Some, None, Option, ◌==◌}
+use Rattle.std.specs.Prelude.{◌≡◌, ◌≢◌, ℕ, ◌+◌, ◌*◌, ◌≤◌, Bool, true, false, not, cond, List, [], ◌∷◌, Some, None, Option, ◌==◌}
 use Rattle.relations.specs.declared.term.Variable.{Variable}
 use Rattle.boolean.specs.declared.mode.AllocationMode.{AllocationMode}
 use Rattle.boolean.specs.declared.mode.AllocationMode.TheVariants.{Constant as as_constant, Input as as_input, Witness as as_witness}
@@ -71,3 +71,8 @@ joined_bit g xs = bit (joined g (truths xs))
 -- not all are one
 abbrev pub NotAll : List ℕ → Type 0
 NotAll xs = joined And (truths xs) ≡ false
+
+-- the number that bits spell, the lowest first
+abbrev pub spelled : List ℕ → ℕ
+spelled [] = 0
+spelled (x ∷ xs) = x + 2 * spelled xs
