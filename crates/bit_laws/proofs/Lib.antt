@@ -8,3 +8,4 @@ pub mod Differences
 pub mod Chains
 pub mod Walking
 pub mod Bound
+pub mod Sizes

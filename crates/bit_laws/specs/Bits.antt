@@ -1,6 +1,7 @@
 -- The numbers that an assignment gives to bits, and which bits are there.
 use Rattle.std.specs.Prelude.{◌≡◌, ◌≢◌, ℕ, ◌+◌, ◌*◌, ◌≤◌, Bool, true, false, not, cond, List, [], ◌∷◌, Some, None, Option, ◌==◌}
 use Rattle.relations.specs.declared.term.Variable.{Variable}
+use Rattle.relations.specs.declared.term.Variable.TheVariants.{One, Zero, Input, Witness, Combination}
 use Rattle.boolean.specs.declared.mode.AllocationMode.{AllocationMode}
 use Rattle.boolean.specs.declared.mode.AllocationMode.TheVariants.{Constant as as_constant, Input as as_input, Witness as as_witness}
 use Rattle.boolean.specs.declared.bits.Boolean.{Boolean}
@@ -27,6 +28,14 @@ Valued as_witness o r = Unit {0}
 abbrev pub ThereBit : There → Boolean → Type 0
 ThereBit h (Constant b) = Unit {0}
 ThereBit h (Var a) = h a.variable ≡ true
+
+-- an input, a witness or a combination
+abbrev pub real : Variable → Bool
+real One = false
+real Zero = false
+real (Input i) = true
+real (Witness i) = true
+real (Combination c) = true
 
 -- ---- what some gates make of numbers
 -- 1 where two numbers are equal

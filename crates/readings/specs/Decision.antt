@@ -1,7 +1,5 @@
 -- How a command is decided: by its operands and the book's places, and then by its bill against the system's rooms.
 use Rattle.std.specs.Prelude.{◌≡◌, ℕ, Bool, true, false, cond, List, [], ◌∷◌, Some, None, Ok, Err, Option, Result, ◌==◌}
-use Rattle.relations.specs.declared.term.Variable.{Variable}
-use Rattle.relations.specs.declared.term.Variable.TheVariants.{One, Zero, Input, Witness, Combination}
 use Rattle.relations.specs.declared.fault.GadgetFault.{GadgetFault}
 use Rattle.relations.specs.declared.fault.GadgetFault.TheVariants.{NoValue}
 use Rattle.relations.specs.Sum.{code}
@@ -22,6 +20,7 @@ use Rattle.command.specs.declared.fault.TapeFault.{TapeFault}
 use Rattle.command.specs.declared.fault.TapeFault.TheVariants.{Gadget}
 use Rattle.command.specs.Decide.{checked}
 use Rattle.command.specs.Answers.{kinds, mode_of, value_of, bit_at}
+use Rattle.bit_laws.specs.Bits.{real}
 use Rattle.laws.specs.Bill.{Charge, takes_variable, takes_combination, takes_row, stops, Account, settled}
 
 -- ---- the bill of each command: what it asks of the rooms, in order
@@ -80,13 +79,6 @@ abbrev pub decision : Command → Meaning → List Answer → ℕ → Result (Li
 decision c m book places = by_check c m book (checked c (kinds book) places)
 
 -- an answer is a constant, or names an input, a witness or a combination
-abbrev pub real : Variable → Bool
-real One = false
-real Zero = false
-real (Input i) = true
-real (Witness i) = true
-real (Combination c) = true
-
 abbrev pub Real : Answer → Type 0
 Real (Bit (Constant b)) = Unit {0}
 Real (Bit (Var a)) = real a.variable ≡ true
