@@ -9,3 +9,5 @@ pub mod Chains
 pub mod Walking
 pub mod Bound
 pub mod Sizes
+pub mod Owes
+pub mod BitBills

@@ -1,9 +1,10 @@
 -- How many terms the sums of the gates take.
-use Rattle.std.proofs.Common.{◌≡◌, ℕ, ◌+◌, ◌-◌, ◌%◌, ◌<◌, Bool, true, false, cond, eqb, ◌≢◌, List, [], ◌∷◌, length, sym, refl, ap, ◌∙◌, subst, mod-eq_of_lt, arith, eq-eqb, ne_eqb, true-eqb, false-eqb}
+use Rattle.std.proofs.Common.{◌≡◌, ℕ, ◌+◌, ◌-◌, ◌%◌, ◌<◌, Bool, true, false, cond, eqb, ◌≢◌, [], ◌∷◌, length, sym, refl, ap, ◌∙◌, subst, mod-eq_of_lt, arith, eq-eqb, ne_eqb, true-eqb, false-eqb}
 use Rattle.relations.specs.declared.term.Variable.{Variable}
 use Rattle.relations.specs.declared.term.Variable.TheVariants.{One, Zero, Input, Witness, Combination}
 use Rattle.relations.specs.Sum.{code, counted, Pairs, merged, sum_of}
-use Rattle.relations.specs.Terms.{times, one_less}
+use native.Mathlib.Nat.{mod_self}
+use Rattle.relations.specs.Terms.{times, less, one_less}
 use Rattle.bit_laws.specs.Bits.{real}
 
 pub clash : {A : Type 0} → ◌≡◌ {A = Bool} false true → A
@@ -108,3 +109,47 @@ module _ (p : ℕ) (two : 2 < p) where
           let q : code a ≡ code b = true-eqb (code a) (code b) (sym e) in
           subst (λ (x : ℕ). sized p ((code a, 1) ∷ ((x, 1) ∷ ((code w, p - 1) ∷ []))) ≡ 2) q (pair_size p (code a) (code w) 1 1 (p - 1) aw twice_some less_some)
       go false e = three_size p (code a) (code b) (code w) 1 1 (p - 1) (false-eqb (code a) (code b) (sym e)) aw bw one_some one_some less_some
+
+  -- two terms of one variable alone
+  pub once_size : (c k l : ℕ) → (((0 + k) % p + l) % p ≡ 0 → ⊥) → sized p ((c, k) ∷ ((c, l) ∷ [])) ≡ 1
+  once_size c k l h =
+      let e = eq-eqb c c refl in
+      let x = ne_eqb (((0 + k) % p + l) % p) 0 h in
+      simp (e, x)
+
+  pub none_size : (c k l : ℕ) → ((0 + k) % p + l) % p ≡ 0 → sized p ((c, k) ∷ ((c, l) ∷ [])) ≡ 0
+  none_size c k l h =
+      let e = eq-eqb c c refl in
+      let x = eq-eqb (((0 + k) % p + l) % p) 0 h in
+      simp (e, x)
+
+  -- one variable less another
+  pub between_size : (x y : Variable) → real x ≡ true → real y ≡ true → (sum_of p (less p x y)).size ≡ cond (eqb (code x) (code y)) 0 2
+  between_size x y rx ry = (λ i. sized p ((code x, counts x 1 rx i) ∷ ((code y, counts y (p - 1) ry i) ∷ []))) ∙ go (eqb (code x) (code y)) refl
+    where
+      gone : ((0 + 1) % p + (p - 1)) % p ≡ 0
+      gone =
+          let q : (0 + 1) % p ≡ 1 = mod-eq_of_lt (omega arith) in
+          ap (λ (t : ℕ). (t + (p - 1)) % p) q ∙ ap (λ (t : ℕ). t % p) (omega arith) ∙ mod_self p
+
+      go : (t : Bool) → eqb (code x) (code y) ≡ t → sized p ((code x, 1) ∷ ((code y, p - 1) ∷ [])) ≡ cond t 0 2
+      go true e = subst (λ (c : ℕ). sized p ((code x, 1) ∷ ((c, p - 1) ∷ [])) ≡ 0) (true-eqb (code x) (code y) (sym e)) (none_size (code x) 1 (p - 1) gone)
+      go false e = two_size p (code x) (code y) 1 (p - 1) (false-eqb (code x) (code y) (sym e)) one_some less_some
+
+  -- two variables together
+  pub both_size : (x y : Variable) → real x ≡ true → real y ≡ true → (sum_of p (times 1 x ∷ (times 1 y ∷ []))).size ≡ cond (eqb (code x) (code y)) 1 2
+  both_size x y rx ry = (λ i. sized p ((code x, counts x 1 rx i) ∷ ((code y, counts y 1 ry i) ∷ []))) ∙ go (eqb (code x) (code y)) refl
+    where
+      go : (t : Bool) → eqb (code x) (code y) ≡ t → sized p ((code x, 1) ∷ ((code y, 1) ∷ [])) ≡ cond t 1 2
+      go true e = subst (λ (c : ℕ). sized p ((code x, 1) ∷ ((c, 1) ∷ [])) ≡ 1) (true-eqb (code x) (code y) (sym e)) (once_size (code x) 1 1 twice_some)
+      go false e = two_size p (code x) (code y) 1 1 (false-eqb (code x) (code y) (sym e)) one_some one_some
+
+  -- a constant, and a variable with one
+  pub ones_size : (k : ℕ) → (k % p ≡ 0 → ⊥) → (sum_of p (times k One ∷ [])).size ≡ 1
+  ones_size k h = one_size p 0 k h
+
+  pub one_more_size : (v : Variable) → real v ≡ true → (sum_of p (times 1 One ∷ (times 1 v ∷ []))).size ≡ 2
+  one_more_size v r = ap (λ (x : ℕ). sized p ((0, 1) ∷ ((code v, x) ∷ []))) (counts v 1 r) ∙ two_size p 0 (code v) 1 1 (one_apart v r) one_some one_some
+
+  pub more_size : (v : Variable) (k : ℕ) → real v ≡ true → (k % p ≡ 0 → ⊥) → (sum_of p (times 1 v ∷ (times k One ∷ []))).size ≡ 2
+  more_size v k r h = ap (λ (x : ℕ). sized p ((code v, x) ∷ ((0, k) ∷ []))) (counts v 1 r) ∙ two_size p (code v) 0 1 k (λ e. one_apart v r (sym e)) one_some h
