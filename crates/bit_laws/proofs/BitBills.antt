@@ -147,6 +147,21 @@ module _ (p : ℕ) (two : 2 < p) (n : Next) where
   zero_owes (Var a) h = owes_row (just a.variable) (just One) [] 2 tt unit Any tt (λ i. just_size p two 1 a.variable (one_some p two) (older_real n a.variable h) i + ones_size p two 1 (one_some p two) i + 0) refl tt
 
 -- ---- one after another
+-- only xor asks whether its operands are one variable
+pub and_same : (s : Bool) (a b : Option Bool) → gate_due And s a b ≡ gate_due And false a b
+and_same s (Some true) b = refl
+and_same s (Some false) b = refl
+and_same s None (Some true) = refl
+and_same s None (Some false) = refl
+and_same s None None = refl
+
+pub or_same : (s : Bool) (a b : Option Bool) → gate_due Or s a b ≡ gate_due Or false a b
+or_same s (Some true) b = refl
+or_same s (Some false) b = refl
+or_same s None (Some true) = refl
+or_same s None (Some false) = refl
+or_same s None None = refl
+
 module _ (p : ℕ) (two : 2 < p) (n : Next) where
   pub is_eq_owes : (a b : Boolean) → OldBit n a → OldBit n b → Owes p n (is_eq_script p a b) shadow OldBit (is_eq_due (same_name a b) (shadow a) (shadow b))
   is_eq_owes a b ha hb = owes_then not_due (gate_owes p two n Xor a b ha hb) (λ l x up h. not_owes p two l x h)
@@ -154,21 +169,6 @@ module _ (p : ℕ) (two : 2 < p) (n : Next) where
   turned_owes : (g : Gate) (a b : Boolean) → OldBit n a → OldBit n b → ((t : Boolean) → gate_due g (same_name t b) (shadow t) (shadow b) ≡ gate_due g false (shadow t) (shadow b))
       → Owes p n (then (not_script p a) (λ t. gate_call g p (t, b))) shadow OldBit (due_then (not_due (shadow a)) (λ t. gate_due g false t (shadow b)))
   turned_owes g a b ha hb same = owes_then (λ t. gate_due g false t (shadow b)) (not_owes p two n a ha) (λ l x up h. owes_as (gate_due g false (shadow x) (shadow b)) (same x) (gate_owes p two l g x b h (old_later n l up b hb)))
-
-  -- only xor asks whether its operands are one variable
-  and_same : (s : Bool) (a b : Option Bool) → gate_due And s a b ≡ gate_due And false a b
-  and_same s (Some true) b = refl
-  and_same s (Some false) b = refl
-  and_same s None (Some true) = refl
-  and_same s None (Some false) = refl
-  and_same s None None = refl
-
-  or_same : (s : Bool) (a b : Option Bool) → gate_due Or s a b ≡ gate_due Or false a b
-  or_same s (Some true) b = refl
-  or_same s (Some false) b = refl
-  or_same s None (Some true) = refl
-  or_same s None (Some false) = refl
-  or_same s None None = refl
 
   pub and_owes : (a b : Boolean) → OldBit n a → OldBit n b → Owes p n (gate_call And p (a, b)) shadow OldBit (gate_due And false (shadow a) (shadow b))
   and_owes a b ha hb = owes_as (gate_due And false (shadow a) (shadow b)) (and_same (same_name a b) (shadow a) (shadow b)) (gate_owes p two n And a b ha hb)

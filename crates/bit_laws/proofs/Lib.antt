@@ -11,3 +11,4 @@ pub mod Bound
 pub mod Sizes
 pub mod Owes
 pub mod BitBills
+pub mod WideBills
