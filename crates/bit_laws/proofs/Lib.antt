@@ -12,3 +12,5 @@ pub mod Sizes
 pub mod Owes
 pub mod BitBills
 pub mod WideBills
+pub mod BoundBills
+pub mod Charged

@@ -13,7 +13,7 @@ use Rattle.boolean.specs.declared.bits.Boolean.TheVariants.{Constant, Var}
 use Rattle.laws.specs.Bill.{Charge, takes_combination, takes_row, Next, names, past_terms, charges, ends}
 use Rattle.laws.proofs.Heads.{head_below}
 use Rattle.laws.proofs.Settle.{behind, charges_then, ended, ends_then}
-use Rattle.bit_laws.specs.Bits.{real, ThereBit}
+use Rattle.bit_laws.specs.Bits.{real, RealBit, ThereBit}
 use Rattle.bit_laws.specs.Bills.{Due, owes, quits, due_then, goes_on}
 use Rattle.bit_laws.proofs.Sizes.{clash}
 
@@ -83,10 +83,6 @@ OldBit n (Var a) = Older n a.variable
 pub old_later : (n k : Next) → Later n k → (b : Boolean) → OldBit n b → OldBit k b
 old_later n k l (Constant b) h = tt
 old_later n k l (Var a) h = older_later n k l a.variable h
-
-abbrev pub RealBit : Boolean → Type 0
-RealBit (Constant b) = Unit {0}
-RealBit (Var a) = real a.variable ≡ true
 
 pub old_there : (m : Meaning) (b : Boolean) → RealBit b → ThereBit (has m) b → OldBit (names m) b
 old_there m (Constant b) r h = tt

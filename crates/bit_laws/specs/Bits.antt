@@ -37,6 +37,11 @@ real (Input i) = true
 real (Witness i) = true
 real (Combination c) = true
 
+-- a bit is a constant, or names one of these
+abbrev pub RealBit : Boolean → Type 0
+RealBit (Constant b) = Unit {0}
+RealBit (Var a) = real a.variable ≡ true
+
 -- ---- what some gates make of numbers
 -- 1 where two numbers are equal
 abbrev pub equality : ℕ × ℕ → ℕ
