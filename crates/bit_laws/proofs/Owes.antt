@@ -155,3 +155,11 @@ owes_if false f g = g refl
 -- other words for what is due, or for the answer
 pub owes_as : {p : ℕ} {n : Next} {Out A : Type 0} {s : Script Out} {sh : Out → A} {Good : Next → Out → Type 0} {d : Due A} (e : Due A) → d ≡ e → Owes p n s sh Good d → Owes p n s sh Good e
 owes_as {p} {n} {Out} {A} {s} {sh} {Good} e q a = subst (λ (d : Due A). Owes p n s sh Good d) q a
+
+-- an answer made of another's asks for nothing
+pub charges_map : {A B : Type 0} (p : ℕ) (n : Next) (s : Script A) (f : A → B) → charges p n (then s (λ x. answer (f x))) ≡ charges p n s
+charges_map {A} {B} p n s f = charges_then p n s (λ x. answer (f x)) ∙ go (ends p n s)
+  where
+    go : (r : Option (A × Next)) → charges p n s ++ behind p (λ x. answer (f x)) r ≡ charges p n s
+    go None = append-nil (charges p n s)
+    go (Some x) = append-nil (charges p n s)

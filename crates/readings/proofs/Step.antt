@@ -41,7 +41,7 @@ use Rattle.laws.proofs.Link.{run_grows}
 use Rattle.laws.proofs.Own.{assigned_grows, assigned_row}
 use Rattle.laws.proofs.Settle.{settles_ok, settles_err, ends_run}
 use Rattle.laws.proofs.Theorem.{start, step_refused, step_accepted, faithful, nums_same}
-use Rattle.bit_laws.specs.Bits.{bit_number_of}
+use Rattle.bit_laws.specs.Bits.{bit_number_of, RealBit}
 use Rattle.readings.specs.Readings.{number_of, numbers_of, Reading, BoundedByKind, NamesThere}
 use Rattle.readings.specs.Decision.{bill, by_bill, by_check, Real}
 use Rattle.readings.specs.State.{State, state, filed, performed, executed}
@@ -79,9 +79,6 @@ first_of : {A : Type 0} (x y : A) (n k : Next) → ◌≡◌ {A = Option (A × N
 first_of {A} x y n k e = let q : ◌≡◌ {A = A × Next} (x, n) (y, k) = cc e in ap (λ z. z.0) q
 
 -- ---- answers are constants, or name inputs, witnesses or combinations
-abbrev RealBit : Boolean → Type 0
-RealBit b = Real (Bit b)
-
 real_is : (b c : Boolean) (n k : Next) → RealBit b → ◌≡◌ {A = Option (Boolean × Next)} (Some (b, n)) (Some (c, k)) → RealBit c
 real_is b c n k r e = subst RealBit (first_of b c n k e) r
 
