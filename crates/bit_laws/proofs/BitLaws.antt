@@ -34,11 +34,11 @@ less_bit zero h = refl
 less_bit (suc zero) h = refl
 less_bit (suc (suc x)) h = absurd (omega arith)
 
-bit_low : (b : Bool) → bit b ≤ 1
+pub bit_low : (b : Bool) → bit b ≤ 1
 bit_low true = omega arith
 bit_low false = omega arith
 
-known_bit : (b : Bool) → truth (bit b) ≡ b
+pub known_bit : (b : Bool) → truth (bit b) ≡ b
 known_bit true = refl
 known_bit false = refl
 
@@ -46,11 +46,11 @@ known_bit false = refl
 abbrev pub flipped : ℕ → ℕ
 flipped x = bit (not (truth x))
 
-not_pure : (p : ℕ) (a : Boolean) → Pure (not_script p a)
+pub not_pure : (p : ℕ) (a : Boolean) → Pure (not_script p a)
 not_pure p (Constant b) = tt
 not_pure p (Var a) = λ v. tt
 
-not_forces : (p : ℕ) → Prime p → Forces p bit_number_of bit_number_of (not_script p) (λ x. x ≤ 1) (Is flipped)
+pub not_forces : (p : ℕ) → Prime p → Forces p bit_number_of bit_number_of (not_script p) (λ x. x ≤ 1) (Is flipped)
 not_forces p P ρ low (Constant b) h = ap (λ x. bit (not x)) (sym (known_bit b))
 not_forces p P ρ low (Var a) h = λ v e. e ∙ one_less p (ρ One) (ρ a.variable) P.0 low.one h ∙ less_bit (ρ a.variable) h
 

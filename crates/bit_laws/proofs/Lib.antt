@@ -1,3 +1,16 @@
 pub mod Rows
 pub mod BitLaws
 pub mod BitOrder
+pub mod Fixes
+pub mod Choices
+pub mod Statements
+pub mod Differences
+pub mod Chains
+pub mod Walking
+pub mod Bound
+pub mod Sizes
+pub mod Owes
+pub mod BitBills
+pub mod WideBills
+pub mod BoundBills
+pub mod Charged

@@ -3,7 +3,7 @@ ghost use Rattle.command.specs.Answers.{kind_of, mode_of, value_of};
 
 use crate::commands::Kind;
 use crate::fault::TapeFault;
-use boolean::{AllocationMode, Boolean, BooleanCall};
+use boolean::{AllocationMode, Boolean};
 use relations::Refusal;
 use std::fmt;
 
@@ -88,14 +88,6 @@ impl Answers {
     {
         &self.list[..self.count]
     }
-}
-
-// An enum, and not a closure, as `BooleanCall` is: the script of a command is a function of it.
-/// What a command asks for, its operands looked up: an answer that is there already, or a call on bits.
-#[derive(Clone, Copy)]
-pub enum Action {
-    Alias(Answer),
-    Bits(BooleanCall),
 }
 
 impl Answer {

@@ -1,9 +1,10 @@
 ghost use Rattle.std.specs.Prelude.{◌≡◌, List, length};
 ghost use Rattle.relations.specs.Script.{over};
 ghost use Rattle.command.specs.declared.commands.Kind.{Kind as Sort};
-ghost use Rattle.command.specs.Decide.{kind_at, is_bit, fits, checked};
+ghost use Rattle.command.specs.Decide.{kind_at, is_bit, range_is_bits, short, fits, measured, answers, checked};
 
-use crate::commands::{Command, Kind};
+use crate::commands::{Command, Kary, Kind, Range};
+use gates::bit_length;
 use crate::fault::TapeFault;
 
 /// A book by the kinds of its answers.
@@ -26,7 +27,27 @@ fn names_bit<B: Kinds>(book: &B, a: u32) -> bool
     book.kind(a) == Some(Kind::Bit)
 }
 
-// A match on the command, as in its definition.
+/// Whether all answers of a range are there and are bits.
+fn name_bits<B: Kinds>(book: &B, range: Range) -> bool
+    ensures { result ≡ range_is_bits (B.Kinds.kinds book.now) range }
+{
+    let first: u32 = range.first.into();
+    for i in 0..range.count {
+        if !names_bit(book, first + i as u32) {
+            return false;
+        }
+    }
+    true
+}
+
+/// Whether a range has at most 64 answers.
+fn is_short(range: Range) -> bool
+    ensures { result ≡ short range }
+{
+    range.count <= 64
+}
+
+// Matches on the command, here and below, as in its definitions.
 /// Whether a command's operands name answers of the right kinds and its bytes are among their values.
 fn is_fit<B: Kinds>(command: Command, book: &B) -> bool
     ensures { result ≡ fits command (B.Kinds.kinds book.now) }
@@ -35,18 +56,47 @@ fn is_fit<B: Kinds>(command: Command, book: &B) -> bool
         Command::Bit(mode, value) => mode <= 2 && value <= 2,
         Command::Clone(a) => book.kind(a).is_some(),
         Command::Not(a) => names_bit(book, a),
-        Command::Gated(_, a, b) => names_bit(book, a) && names_bit(book, b),
+        Command::Gated(_, a, b) | Command::IsEqual(a, b) => names_bit(book, a) && names_bit(book, b),
+        Command::Kary(_, range) | Command::AtMost(range, _) => name_bits(book, range),
+        Command::Select(a, b, c) | Command::Enforce(_, a, b, c) => {
+            names_bit(book, a) && names_bit(book, b) && names_bit(book, c)
+        }
     }
 }
 
-/// What decides before any gadget runs: the operands and bytes of a command, and then the places that its answers want.
+/// Whether a command's lengths are right.
+fn is_measured(command: Command) -> bool
+    ensures { result ≡ measured command }
+{
+    match command {
+        Command::Kary(_, range) => range.count >= 1 && is_short(range),
+        Command::AtMost(range, element) => bit_length(element) <= range.count as u32 && is_short(range),
+        _ => true,
+    }
+}
+
+/// How many answers a command adds to the book.
+fn answer_count(command: Command) -> usize
+    ensures { (ks : List Sort) → result ≡ length (answers command ks) }
+{
+    match command {
+        Command::Kary(Kary::EnforceNand, _) | Command::Enforce(_, _, _, _) | Command::AtMost(_, _) => 0,
+        _ => 1,
+    }
+}
+
+/// What decides before any gadget runs: the operands and bytes of a command, then its lengths, and then the places that its answers want.
 pub fn check<B: Kinds>(command: Command, book: &B, places: usize) -> Result<(), TapeFault>
     ensures { result ≡ over (λ _. tt) (checked command (B.Kinds.kinds book.now) places) }
 {
     if !is_fit(command, book) {
         return Err(TapeFault::Operand);
     }
-    if book.count() >= places {
+    if !is_measured(command) {
+        return Err(TapeFault::Length);
+    }
+    let count = answer_count(command);
+    if count > places || book.count() > places - count {
         return Err(TapeFault::BookFull);
     }
     Ok(())

@@ -7,6 +7,29 @@ pub enum Kind {
     Number,
 }
 
+/// Consecutive answers of the book: the number of the first, and how many there are. Where there are none the first is not looked at.
+#[derive(Clone, Copy)]
+pub struct Range {
+    pub first: u16,
+    pub count: u8,
+}
+
+/// A command on any number of bits: whether all are one, some are, or some are not; or the statement that some are not.
+#[derive(Clone, Copy)]
+pub enum Kary {
+    And,
+    Or,
+    Nand,
+    EnforceNand,
+}
+
+/// A statement on two answers under a condition: that they are equal, or that they differ.
+#[derive(Clone, Copy)]
+pub enum Claim {
+    Equal,
+    Unequal,
+}
+
 /// A command as its bytes say, before any operand is looked at: an operand is the number of an answer of the book.
 #[derive(Clone, Copy)]
 pub enum Command {
@@ -15,6 +38,13 @@ pub enum Command {
     Clone(u32),
     Not(u32),
     Gated(Gate, u32, u32),
+    Kary(Kary, Range),
+    IsEqual(u32, u32),
+    // The condition first, as on the tape.
+    Select(u32, u32, u32),
+    // The condition last, as on the tape.
+    Enforce(Claim, u32, u32, u32),
+    AtMost(Range, u64),
 }
 
 /// A command, and how many bytes it takes.

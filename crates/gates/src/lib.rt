@@ -11,5 +11,5 @@ mod wide;
 pub use calls::enforce_smaller_or_equal_than_le;
 pub use kary::{KaryCall, KaryStatement};
 pub use members::{MOST_MEMBERS, Members};
-pub use walk::enforce_smaller_or_equal_than_le_steps;
+pub use walk::{bit_length, enforce_smaller_or_equal_than_le_steps};
 pub use wide::Wide;

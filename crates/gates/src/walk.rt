@@ -2,7 +2,7 @@ ghost use Rattle.std.specs.Prelude.{◌≡◌, ℕ, ◌<◌, ◌≤◌, [], drop
 ghost use Rattle.relations.specs.Meaning.{Ran, Adds};
 ghost use Rattle.relations.specs.Script.{Script, run};
 ghost use Rattle.boolean.specs.declared.bits.Boolean.TheVariants.{Constant as constant};
-ghost use Rattle.gates.specs.Walk.{bit_of, bits_up_to, place, above_script, closed_script, fall_script, descent, walk_script};
+ghost use Rattle.gates.specs.Walk.{bit_of, bits_up_to, bit_length as bit_length_of, place, above_script, closed_script, fall_script, descent, walk_script};
 
 use crate::members::{MOST_MEMBERS, Members};
 use crate::sum::chain_from;
@@ -31,6 +31,13 @@ fn bits_up_to(number: u64, most: u32) -> u32
         }
     }
     0
+}
+
+/// How many bits a number has: none where it is zero.
+pub fn bit_length(number: u64) -> u32
+    ensures { result ≡ bit_length_of number }
+{
+    bits_up_to(number, 64)
 }
 
 /// The bit at a place; past the end there is the constant 0.

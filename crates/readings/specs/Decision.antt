@@ -1,18 +1,13 @@
 -- How a command is decided: by its operands and the book's places, and then by its bill against the system's rooms.
-use Rattle.std.specs.Prelude.{◌≡◌, ℕ, Bool, true, false, cond, List, [], ◌∷◌, Some, None, Ok, Err, Option, Result, ◌==◌}
-use Rattle.relations.specs.declared.term.Variable.{Variable}
-use Rattle.relations.specs.declared.term.Variable.TheVariants.{One, Zero, Input, Witness, Combination}
+use Rattle.std.specs.Prelude.{ℕ, Bool, true, false, List, [], ◌∷◌, Some, None, Ok, Err, Option, Result}
 use Rattle.relations.specs.declared.fault.GadgetFault.{GadgetFault}
 use Rattle.relations.specs.declared.fault.GadgetFault.TheVariants.{NoValue}
-use Rattle.relations.specs.Sum.{code}
 use Rattle.relations.specs.Meaning.{Meaning}
 use Rattle.relations.specs.declared.term.Side.TheVariants.{Input as input, Witness as witness}
 use Rattle.boolean.specs.declared.mode.AllocationMode.{AllocationMode}
 use Rattle.boolean.specs.declared.mode.AllocationMode.TheVariants.{Constant as as_constant, Input as as_input, Witness as as_witness}
 use Rattle.allocated.specs.declared.gate.Gate.{Gate}
-use Rattle.allocated.specs.declared.gate.Gate.TheVariants.{And, Or, Xor}
 use Rattle.boolean.specs.declared.bits.Boolean.{Boolean}
-use Rattle.boolean.specs.declared.bits.Boolean.TheVariants.{Constant, Var}
 use Rattle.command.specs.declared.commands.Kind.{Kind}
 use Rattle.command.specs.declared.commands.Command.{Command}
 use Rattle.command.specs.declared.commands.Command.TheVariants.{Bit as BitCommand, Clone, Not, Gated}
@@ -22,7 +17,9 @@ use Rattle.command.specs.declared.fault.TapeFault.{TapeFault}
 use Rattle.command.specs.declared.fault.TapeFault.TheVariants.{Gadget}
 use Rattle.command.specs.Decide.{checked}
 use Rattle.command.specs.Answers.{kinds, mode_of, value_of, bit_at}
-use Rattle.laws.specs.Bill.{Charge, takes_variable, takes_combination, takes_row, stops, Account, settled}
+use Rattle.bit_laws.specs.Bits.{RealBit}
+use Rattle.bit_laws.specs.Bills.{shadow, same_name, not_due, gate_due}
+use Rattle.laws.specs.Bill.{Charge, takes_variable, takes_row, stops, Account, settled}
 
 -- ---- the bill of each command: what it asks of the rooms, in order
 abbrev pub given : Option Bool → Bool
@@ -36,30 +33,12 @@ new_bill as_constant (Some b) = []
 new_bill as_input o = takes_variable input (given o) ∷ (takes_row 3 ∷ [])
 new_bill as_witness o = takes_variable witness (given o) ∷ (takes_row 3 ∷ [])
 
--- a combination of two terms, unless the operand is constant
+-- not, and a gate on two bits: by which of the operands are constants, and whether they are one variable
 abbrev pub not_bill : Boolean → List Charge
-not_bill (Constant b) = []
-not_bill (Var a) = takes_combination 2 ∷ []
+not_bill b = (not_due (shadow b)).0
 
--- how many terms a gate's row on two variables takes: 3 for and, 6 for or, 5 for xor and 4 where its operands are one variable
-abbrev pub row_terms : Gate → Bool → ℕ
-row_terms And same = 3
-row_terms Or same = 6
-row_terms Xor same = cond same 4 5
-
--- a constant beside another operand folds, but for a one beside a variable under xor, which is its not
 abbrev pub gate_bill : Gate → Boolean → Boolean → List Charge
-gate_bill And (Constant x) b = []
-gate_bill And (Var a) (Constant y) = []
-gate_bill Or (Constant x) b = []
-gate_bill Or (Var a) (Constant y) = []
-gate_bill Xor (Constant false) b = []
-gate_bill Xor (Constant true) b = not_bill b
-gate_bill Xor (Var a) (Constant false) = []
-gate_bill Xor (Var a) (Constant true) = takes_combination 2 ∷ []
-gate_bill And (Var a) (Var b) = takes_variable witness true ∷ (takes_row (row_terms And (code a.variable == code b.variable)) ∷ [])
-gate_bill Or (Var a) (Var b) = takes_variable witness true ∷ (takes_row (row_terms Or (code a.variable == code b.variable)) ∷ [])
-gate_bill Xor (Var a) (Var b) = takes_variable witness true ∷ (takes_row (row_terms Xor (code a.variable == code b.variable)) ∷ [])
+gate_bill g a b = (gate_due g (same_name a b) (shadow a) (shadow b)).0
 
 abbrev pub bill : ℕ → Command → List Answer → List Charge
 bill p (BitCommand m v) book = new_bill (mode_of m) (value_of v)
@@ -80,13 +59,5 @@ abbrev pub decision : ℕ → Command → Meaning → List Answer → ℕ → Re
 decision p c m book places = by_check p c m book (checked c (kinds book) places)
 
 -- an answer is a constant, or names an input, a witness or a combination
-abbrev pub real : Variable → Bool
-real One = false
-real Zero = false
-real (Input i) = true
-real (Witness i) = true
-real (Combination c) = true
-
 abbrev pub Real : Answer → Type 0
-Real (Bit (Constant b)) = Unit {0}
-Real (Bit (Var a)) = real a.variable ≡ true
+Real (Bit b) = RealBit b
