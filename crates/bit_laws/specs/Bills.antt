@@ -1,5 +1,5 @@
 -- What the gates on bits ask of a system, by which of their operands are constants, and which are one variable.
-use Rattle.std.specs.Prelude.{ℕ, zero, suc, ◌+◌, Bool, true, false, not, cond, List, [], ◌∷◌, ◌++◌, length, drop, replicate, Some, None, Option, ◌==◌, nat_le, slice_index_or}
+use Rattle.std.specs.Prelude.{ℕ, zero, suc, ◌+◌, Bool, true, false, not, cond, List, [], ◌∷◌, ◌++◌, map, length, drop, replicate, Some, None, Option, ◌==◌, nat_le, slice_index_or}
 use Rattle.relations.specs.declared.fault.GadgetFault.{GadgetFault}
 use Rattle.relations.specs.declared.fault.GadgetFault.TheVariants.{Unsatisfiable, TooManyMembers}
 use Rattle.relations.specs.declared.term.Side.TheVariants.{Witness as witness}
@@ -22,8 +22,7 @@ shadow (Constant b) = Some b
 shadow (Var a) = None
 
 abbrev pub shadows : List Boolean → List (Option Bool)
-shadows [] = []
-shadows (b ∷ bs) = shadow b ∷ shadows bs
+shadows bs = map shadow bs
 
 -- whether two bits are one variable
 abbrev pub same_name : Boolean → Boolean → Bool

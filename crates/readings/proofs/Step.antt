@@ -33,14 +33,14 @@ use Rattle.command.specs.declared.fault.TapeFault.{TapeFault}
 use Rattle.command.specs.declared.fault.TapeFault.TheVariants.{Gadget, Operand, BookFull}
 use Rattle.command.specs.Decide.{fits, answers, checked}
 use Rattle.command.specs.Answers.{kind_of, kinds, mode_of, value_of, answer_at, as_bit, bit_at, command_script}
-use Rattle.laws.specs.Law.{Val, Given}
+use Rattle.laws.specs.Law.{Given}
 use Rattle.laws.specs.History.{accepted, Each, Kept}
 use Rattle.laws.specs.Bill.{Next, past, past_terms, named, names, ends, settled, account}
 use Rattle.laws.proofs.Trace.{Keeps, allocated, enforced, refused as ruled}
 use Rattle.laws.proofs.Link.{run_grows}
 use Rattle.laws.proofs.Own.{assigned_grows, assigned_row}
 use Rattle.laws.proofs.Settle.{settles_ok, settles_err, ends_run}
-use Rattle.laws.proofs.Theorem.{start, step_refused, step_accepted, faithful, nums_same}
+use Rattle.laws.proofs.Theorem.{start, step_refused, step_accepted, faithful, nums_same, lists_append, length_lists, each_append}
 use Rattle.bit_laws.specs.Bits.{bit_number_of, RealBit}
 use Rattle.readings.specs.Readings.{number_of, numbers_of, Reading, BoundedByKind, NamesThere}
 use Rattle.readings.specs.Decision.{bill, by_bill, by_check, Real}
@@ -207,18 +207,6 @@ passed c bk places ks e = go (fits c (kinds bk)) (leb (length (kinds bk) + lengt
     go true false h q = wrong BookFull ks q
     go false d h q = wrong Operand ks q
 
-each_append : {A : Type 0} (P : A → Type 0) (xs ys : List A) → Each P xs → Each P ys → Each P (xs ++ ys)
-each_append P [] ys h k = k
-each_append P (x ∷ xs) ys h k = (h.0, each_append P xs ys h.1 k)
-
-numbers_append : (ρ : Val) (xs ys : List Answer) → numbers_of ρ (xs ++ ys) ≡ numbers_of ρ xs ++ numbers_of ρ ys
-numbers_append ρ [] ys = refl
-numbers_append ρ (x ∷ xs) ys = ap (λ (l : List ℕ). number_of ρ x ∷ l) (numbers_append ρ xs ys)
-
-numbers_long : (ρ : Val) (xs : List Answer) → length (numbers_of ρ xs) ≡ length xs
-numbers_long ρ [] = refl
-numbers_long ρ (x ∷ xs) = ap (λ (n : ℕ). suc n) (numbers_long ρ xs)
-
 module _ (p : ℕ) (P : Prime p) (two : 2 < p) where
   seen : (c : Command) (s : State) → Each (NamesThere (has s.system)) s.book → (ks : List Kind) → checked c (kinds s.book) s.places ≡ Ok ks → decided c s ≡ by_bill ks (settled (bill c s.book) s.system)
   seen c s t ks e = ap (by_check c s.system s.book) e
@@ -259,8 +247,8 @@ module _ (p : ℕ) (P : Prime p) (two : 2 < p) where
     told = λ keeps. (
       numbers_of (assigned n) bk,
       numbers_of (assigned n) os,
-      numbers_append (assigned n) bk os,
-      numbers_long (assigned n) os ∙ many,
+      lists_append number_of (assigned n) bk os,
+      length_lists number_of (assigned n) os ∙ many,
       given_by p c bk os m n (kept_so keeps) ran,
       subst (Tells h) (sym (nums_same number_of NamesThere local (has m) (assigned m) (assigned n) (assigned_grows m n grows) bk k.kept.book)) (k.told (kept_so keeps)),
     );
