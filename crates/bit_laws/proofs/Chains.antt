@@ -204,6 +204,9 @@ module _ (p : ℕ) (P : Prime p) (two : 2 < p) where
       none true e = absurd (omega arith)
       none false e = refl
 
+  pub chain_function : (g : Wide) → Function p (lists bit_number_of) bit_number_of (chain_script g p) AllBits (joined_bit g)
+  chain_function g = fixes_function (chain_is p P two g)
+
   pub kary_function : (g : Wide) → Function p (lists bit_number_of) bit_number_of (kary_script g p) AllBits (joined_bit g)
   kary_function g = fixes_function (kary_fixes g)
 
@@ -274,6 +277,9 @@ module _ (p : ℕ) (above : 1 < p) where
 
   pub enforce_nand_neat : (bs : List Boolean) → Neat p (enforce_nand_script p bs) (λ h. ThereAll h bs) Silent
   enforce_nand_neat bs = neat_next (kary_neat And bs) (zero_neat p)
+
+  pub chain_orderly : (g : Wide) → Orderly p (chain_script g p) ThereAll ThereBit
+  chain_orderly g = neat_orderly (chain_all_neat g)
 
   pub kary_orderly : (g : Wide) → Orderly p (kary_script g p) ThereAll ThereBit
   kary_orderly g = neat_orderly (kary_neat g)

@@ -70,6 +70,7 @@ abbrev pub Three : ℕ × ℕ × ℕ → Type 0
 Three x = (x.0 ≤ 1) × (x.1 ≤ 1) × (x.2 ≤ 1)
 
 -- ---- lists of bits
+-- each is 0 or 1
 abbrev pub AllBits : List ℕ → Type 0
 AllBits xs = Each (λ x. x ≤ 1) xs
 
