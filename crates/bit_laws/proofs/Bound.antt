@@ -10,8 +10,13 @@ use Rattle.boolean.specs.Booleans.{zero_script}
 use Rattle.gates.specs.declared.wide.Wide.TheVariants.{And}
 use Rattle.gates.specs.Kary.{all_of, any_of, kary_script}
 use Rattle.gates.specs.Walk.{bit_of, bit_length, place, above_script, closed_script, fall_script, descent, walk_script}
-use Rattle.laws.specs.Law.{Val, Law, lists, There, Orderly}
+use Rattle.laws.specs.Law.{Val, Law, lists, Orderly}
 use Rattle.laws.proofs.Frame.{nothing}
+use lib.ListN.{get_or-map}
+use mathlib.Core.Bool.{and-true, and_assoc, and_comm}
+use Rattle.std.proofs.lemmas.List.{drop-map}
+use Rattle.laws.proofs.Theorem.{lists_append, each_append}
+use Rattle.bit_laws.proofs.Lists.{lists_drop, lists_at, each_drop, each_at}
 use Rattle.bit_laws.specs.Bits.{bit_number_of, ThereBit, AllBits, truths, spelled}
 use Rattle.bit_laws.proofs.BitLaws.{bit_low, same_bit, known_bit}
 use Rattle.bit_laws.proofs.Choices.{bit_wider}
@@ -25,65 +30,10 @@ no_bit : (b : Bool) → bit b ≡ 0 → b ≡ false
 no_bit true e = absurd (omega arith)
 no_bit false e = refl
 
-and_end : (b : Bool) → (b && true) ≡ b
-and_end true = refl
-and_end false = refl
-
-and_swap : (a b : Bool) → (a && b) ≡ (b && a)
-and_swap true true = refl
-and_swap true false = refl
-and_swap false true = refl
-and_swap false false = refl
-
-and_group : (a b c : Bool) → (a && (b && c)) ≡ ((a && b) && c)
-and_group true b c = refl
-and_group false b c = refl
-
 -- all of a list and of one more
 all_end : (xs : List ℕ) (x : ℕ) → all_of (truths (xs ++ (x ∷ []))) ≡ (all_of (truths xs) && truth x)
-all_end [] x = and_end (truth x)
-all_end (y ∷ xs) x = ap (λ (b : Bool). truth y && b) (all_end xs x) ∙ and_group (truth y) (all_of (truths xs)) (truth x)
-
-bits_end : (xs : List ℕ) (x : ℕ) → AllBits xs → x ≤ 1 → AllBits (xs ++ (x ∷ []))
-bits_end [] x h hx = (hx, tt)
-bits_end (y ∷ xs) x h hx = (h.0, bits_end xs x h.1 hx)
-
-lists_end : (ρ : Val) (bs : List Boolean) (b : Boolean) → lists bit_number_of ρ (bs ++ (b ∷ [])) ≡ lists bit_number_of ρ bs ++ (bit_number_of ρ b ∷ [])
-lists_end ρ [] b = refl
-lists_end ρ (x ∷ bs) b = ap (λ (l : List ℕ). bit_number_of ρ x ∷ l) (lists_end ρ bs b)
-
-lists_drop : (ρ : Val) (n : ℕ) (bs : List Boolean) → lists bit_number_of ρ (drop n bs) ≡ drop n (lists bit_number_of ρ bs)
-lists_drop ρ zero [] = refl
-lists_drop ρ zero (b ∷ bs) = refl
-lists_drop ρ (suc n) [] = refl
-lists_drop ρ (suc n) (b ∷ bs) = lists_drop ρ n bs
-
-truths_drop : (n : ℕ) (xs : List ℕ) → truths (drop n xs) ≡ drop n (truths xs)
-truths_drop zero [] = refl
-truths_drop zero (x ∷ xs) = refl
-truths_drop (suc n) [] = refl
-truths_drop (suc n) (x ∷ xs) = truths_drop n xs
-
-bits_drop : (n : ℕ) (xs : List ℕ) → AllBits xs → AllBits (drop n xs)
-bits_drop zero [] h = tt
-bits_drop zero (x ∷ xs) h = h
-bits_drop (suc n) [] h = tt
-bits_drop (suc n) (x ∷ xs) h = bits_drop n xs h.1
-
-place_number : (ρ : Val) (bs : List Boolean) (i : ℕ) → bit_number_of ρ (place bs i) ≡ get_or (lists bit_number_of ρ bs) i 0
-place_number ρ [] i = refl
-place_number ρ (b ∷ bs) zero = refl
-place_number ρ (b ∷ bs) (suc i) = place_number ρ bs i
-
-place_truth : (xs : List ℕ) (i : ℕ) → truth (get_or xs i 0) ≡ get_or (truths xs) i false
-place_truth [] i = refl
-place_truth (x ∷ xs) zero = refl
-place_truth (x ∷ xs) (suc i) = place_truth xs i
-
-place_low : (xs : List ℕ) (i : ℕ) → AllBits xs → get_or xs i 0 ≤ 1
-place_low [] i h = omega arith
-place_low (x ∷ xs) zero h = h.0
-place_low (x ∷ xs) (suc i) h = place_low xs i h.1
+all_end [] x = and-true (truth x)
+all_end (y ∷ xs) x = ap (λ (b : Bool). truth y && b) (all_end xs x) ∙ sym (and_assoc (truth y) (all_of (truths xs)) (truth x))
 
 -- ---- one place
 -- a bit, and the run that is closed with it
@@ -116,10 +66,10 @@ of_zero A B q a = subst (λ (b : Bool). Either b A B) q a
 
 module _ (p : ℕ) (P : Prime p) (two : 2 < p) where
   closed_fixes : (run : List Boolean) (last : Boolean) → Fixes p (λ ρ. (bit_number_of ρ last, lists bit_number_of ρ run)) bit_number_of (closed_script p run last) Starts Always (λ x. bit (closed x))
-  closed_fixes [] last = fixes_answer last Starts Always (λ x. bit (closed x)) (λ ρ low h. (tt, same_bit (bit_number_of ρ last) h.0 ∙ ap bit (sym (and_end (truth (bit_number_of ρ last))))))
+  closed_fixes [] last = fixes_answer last Starts Always (λ x. bit (closed x)) (λ ρ low h. (tt, same_bit (bit_number_of ρ last) h.0 ∙ ap bit (sym (and-true (truth (bit_number_of ρ last))))))
   closed_fixes (b ∷ run) last =
-      fixes_is Starts (λ x. bit (closed x)) (λ x h. bits_end x.1 x.0 h.1 h.0) (λ x h. tt) (λ x h. ap bit (all_end x.1 x.0 ∙ and_swap (all_of (truths x.1)) (truth x.0)))
-      (fixes_on (λ ρ. (bit_number_of ρ last, lists bit_number_of ρ (b ∷ run))) (λ x. x.1 ++ (x.0 ∷ [])) (λ ρ low. lists_end ρ (b ∷ run) last) (kary_fixes p P two And ((b ∷ run) ++ (last ∷ []))))
+      fixes_is Starts (λ x. bit (closed x)) (λ x h. each_append (λ x. x ≤ 1) x.1 (x.0 ∷ []) h.1 (h.0, tt)) (λ x h. tt) (λ x h. ap bit (all_end x.1 x.0 ∙ and_comm (all_of (truths x.1)) (truth x.0)))
+      (fixes_on (λ ρ. (bit_number_of ρ last, lists bit_number_of ρ (b ∷ run))) (λ x. x.1 ++ (x.0 ∷ [])) (λ ρ low. lists_append bit_number_of ρ (b ∷ run) (last ∷ [])) (kary_fixes p P two And ((b ∷ run) ++ (last ∷ []))))
 
   -- at a zero of the bound
   fall_fixes : (run : List Boolean) (last b : Boolean) → Fixes p (λ ρ. (bit_number_of ρ last, lists bit_number_of ρ run, bit_number_of ρ b)) bit_number_of (fall_script p run last b) Falls (λ x. (closed (x.0, x.1) && truth x.2) ≡ false) (λ x. bit (closed (x.0, x.1)))
@@ -133,7 +83,7 @@ module _ (p : ℕ) (P : Prime p) (two : 2 < p) where
       (λ x h r. (bit_low _, (h.2, tt))))
     where
       same : (v : Bool) (n : ℕ) → all_of (truths (bit v ∷ n ∷ [])) ≡ (v && truth n)
-      same v n = ap₂ (λ (a c : Bool). a && c) (known_bit v) (and_end (truth n))
+      same v n = ap₂ (λ (a c : Bool). a && c) (known_bit v) (and-true (truth n))
 
   -- from place i down
   descent_fixes : (e i : ℕ) (bs : List Boolean) (last : Boolean) (run : List Boolean) → Fixes p (λ ρ. (lists bit_number_of ρ bs, bit_number_of ρ last, lists bit_number_of ρ run)) nothing (descent p e i bs last run) Ready (WalkFrom e i) (λ x. tt)
@@ -141,24 +91,24 @@ module _ (p : ℕ) (P : Prime p) (two : 2 < p) where
   descent_fixes e (suc i) bs last run =
       let to : Val → List ℕ × ℕ × List ℕ = λ ρ. (lists bit_number_of ρ bs, bit_number_of ρ last, lists bit_number_of ρ run) in
       fixes_if (bit_of e i)
-      (λ q. fixes_as Ready (WalkFrom e (suc i)) (λ x. tt) (λ x h. (h.0, h.1, bits_end x.2 (get_or x.0 i 0) h.2 (place_low x.0 i h.0)))
+      (λ q. fixes_as Ready (WalkFrom e (suc i)) (λ x. tt) (λ x h. (h.0, h.1, each_append (λ x. x ≤ 1) x.2 (get_or x.0 i 0 ∷ []) h.2 (each_at (λ x. x ≤ 1) x.0 i 0 (omega arith) h.0, tt)))
       (λ x h r. at_one _ _ q (subst (Walk i e (truths x.0)) (longer x) r)) (λ x h r. subst (Walk i e (truths x.0)) (sym (longer x)) (of_one _ _ q r)) (λ x h r. refl)
-      (fixes_on to (λ x. (x.0, x.1, x.2 ++ (get_or x.0 i 0 ∷ []))) (λ ρ low j. (lists bit_number_of ρ bs, bit_number_of ρ last, (lists_end ρ run (place bs i) ∙ ap (λ (n : ℕ). lists bit_number_of ρ run ++ (n ∷ [])) (place_number ρ bs i)) j))
+      (fixes_on to (λ x. (x.0, x.1, x.2 ++ (get_or x.0 i 0 ∷ []))) (λ ρ low j. (lists bit_number_of ρ bs, bit_number_of ρ last, (lists_append bit_number_of ρ run (place bs i ∷ []) ∙ ap (λ (n : ℕ). lists bit_number_of ρ run ++ (n ∷ [])) (lists_at bit_number_of ρ bs i (Constant false))) j))
       (descent_fixes e i bs last (run ++ (place bs i ∷ [])))))
       (λ q. fixes_as Ready (WalkFrom e (suc i)) (λ x. tt) (λ x h. h)
       (λ x h r. at_zero _ _ q (sym (falls x) ∙ r.0, subst (Walk i e (truths x.0)) (shut x) r.1)) (λ x h r. let w = of_zero _ _ q r in (falls x ∙ w.0, subst (Walk i e (truths x.0)) (sym (shut x)) w.1)) (λ x h r. refl)
-      (fixes_then (fixes_as Ready (λ x. (closed (x.1, x.2) && truth (get_or x.0 i 0)) ≡ false) (λ x. bit (closed (x.1, x.2))) (λ x h. (h.1, h.2, place_low x.0 i h.0)) (λ x h r. r) (λ x h r. r) (λ x h r. refl)
-      (fixes_on to (λ x. (x.1, x.2, get_or x.0 i 0)) (λ ρ low j. (bit_number_of ρ last, lists bit_number_of ρ run, place_number ρ bs i j)) (fall_fixes run last (place bs i))))
+      (fixes_then (fixes_as Ready (λ x. (closed (x.1, x.2) && truth (get_or x.0 i 0)) ≡ false) (λ x. bit (closed (x.1, x.2))) (λ x h. (h.1, h.2, each_at (λ x. x ≤ 1) x.0 i 0 (omega arith) h.0)) (λ x h r. r) (λ x h r. r) (λ x h r. refl)
+      (fixes_on to (λ x. (x.1, x.2, get_or x.0 i 0)) (λ ρ low j. (bit_number_of ρ last, lists bit_number_of ρ run, lists_at bit_number_of ρ bs i (Constant false) j)) (fall_fixes run last (place bs i))))
       (λ l. fixes_on (λ ρ. (to ρ, bit_number_of ρ l)) (λ x. (x.0.0, x.1, [])) (λ ρ low. refl) (descent_fixes e i bs l [])) (λ x h r. (h.0, bit_low _, tt))))
     where
       falls : (x : List ℕ × ℕ × List ℕ) → (closed (x.1, x.2) && truth (get_or x.0 i 0)) ≡ (closed (x.1, x.2) && get_or (truths x.0) i false)
-      falls x = ap (λ (b : Bool). closed (x.1, x.2) && b) (place_truth x.0 i)
+      falls x = ap (λ (b : Bool). closed (x.1, x.2) && b) (sym (get_or-map truth x.0 i 0))
 
       longer : (x : List ℕ × ℕ × List ℕ) → closed (x.1, x.2 ++ (get_or x.0 i 0 ∷ [])) ≡ (closed (x.1, x.2) && get_or (truths x.0) i false)
-      longer x = ap (λ (b : Bool). truth x.1 && b) (all_end x.2 (get_or x.0 i 0)) ∙ and_group (truth x.1) (all_of (truths x.2)) (truth (get_or x.0 i 0)) ∙ falls x
+      longer x = ap (λ (b : Bool). truth x.1 && b) (all_end x.2 (get_or x.0 i 0)) ∙ sym (and_assoc (truth x.1) (all_of (truths x.2)) (truth (get_or x.0 i 0))) ∙ falls x
 
       shut : (x : List ℕ × ℕ × List ℕ) → closed (bit (closed (x.1, x.2)), []) ≡ closed (x.1, x.2)
-      shut x = and_end (truth (bit (closed (x.1, x.2)))) ∙ known_bit (closed (x.1, x.2))
+      shut x = and-true (truth (bit (closed (x.1, x.2)))) ∙ known_bit (closed (x.1, x.2))
 
   -- the bits above the bound's
   above_fixes : (bs : List Boolean) → Fixes p (λ ρ. lists bit_number_of ρ bs) nothing (above_script p bs) AllBits (λ xs. any_of (truths xs) ≡ false) (λ xs. tt)
@@ -170,10 +120,10 @@ module _ (p : ℕ) (P : Prime p) (two : 2 < p) where
   walk_at : (n e : ℕ) (bs : List Boolean) → e < 2 ^ n → Fixes p (λ ρ. lists bit_number_of ρ bs) nothing (then (above_script p (drop n bs)) (λ u. descent p e n bs (Constant true) [])) AllBits (λ xs. spelled xs ≤ e) (λ xs. tt)
   walk_at n e bs lt =
       fixes_as AllBits (λ xs. spelled xs ≤ e) (λ xs. tt) (λ xs h. h)
-      (λ xs h r. let w = (walk_is n e (truths xs) lt).0 (sym (ap any_of (truths_drop n xs)) ∙ r.0, r.1) in omega (arith, w, spelled_is xs h))
-      (λ xs h r. let w = (walk_is n e (truths xs) lt).1 (omega (arith, r, spelled_is xs h)) in (ap any_of (truths_drop n xs) ∙ w.0, w.1)) (λ xs h r. refl)
-      (fixes_then (fixes_as AllBits (λ xs. any_of (truths (drop n xs)) ≡ false) (λ xs. tt) (λ xs h. bits_drop n xs h) (λ xs h r. r) (λ xs h r. r) (λ xs h r. refl)
-      (fixes_on (λ ρ. lists bit_number_of ρ bs) (λ xs. drop n xs) (λ ρ low. lists_drop ρ n bs) (above_fixes (drop n bs))))
+      (λ xs h r. let w = (walk_is n e (truths xs) lt).0 (sym (ap any_of (sym (drop-map truth n xs))) ∙ r.0, r.1) in omega (arith, w, spelled_is xs h))
+      (λ xs h r. let w = (walk_is n e (truths xs) lt).1 (omega (arith, r, spelled_is xs h)) in (ap any_of (sym (drop-map truth n xs)) ∙ w.0, w.1)) (λ xs h r. refl)
+      (fixes_then (fixes_as AllBits (λ xs. any_of (truths (drop n xs)) ≡ false) (λ xs. tt) (λ xs h. each_drop (λ x. x ≤ 1) n xs h) (λ xs h r. r) (λ xs h r. r) (λ xs h r. refl)
+      (fixes_on (λ ρ. lists bit_number_of ρ bs) (λ xs. drop n xs) (λ ρ low. lists_drop bit_number_of ρ n bs) (above_fixes (drop n bs))))
       (λ u. fixes_on (λ ρ. (lists bit_number_of ρ bs, nothing ρ u)) (λ x. (x.0, 1, [])) (λ ρ low. refl) (descent_fixes e n bs (Constant true) [])) (λ xs h r. (h, omega arith, tt)))
 
   pub walk_fixes : (bs : List Boolean) (e : ℕ) → e < 2 ^ 64 → Fixes p (λ ρ. lists bit_number_of ρ bs) nothing (walk_script p bs e) AllBits (λ xs. spelled xs ≤ e) (λ xs. tt)
@@ -183,25 +133,10 @@ module _ (p : ℕ) (P : Prime p) (two : 2 < p) where
   walk_law e lt = fixes_law (λ bs. walk_fixes bs e lt)
 
 -- ---- in order
-place_there : (h : There) (bs : List Boolean) (i : ℕ) → ThereAll h bs → ThereBit h (place bs i)
-place_there h [] i t = tt
-place_there h (b ∷ bs) zero t = t.0
-place_there h (b ∷ bs) (suc i) t = place_there h bs i t.1
-
-drop_there : (h : There) (n : ℕ) (bs : List Boolean) → ThereAll h bs → ThereAll h (drop n bs)
-drop_there h zero [] t = tt
-drop_there h zero (b ∷ bs) t = t
-drop_there h (suc n) [] t = tt
-drop_there h (suc n) (b ∷ bs) t = drop_there h n bs t.1
-
-end_there : (h : There) (bs : List Boolean) (b : Boolean) → ThereAll h bs → ThereBit h b → ThereAll h (bs ++ (b ∷ []))
-end_there h [] b t u = (u, tt)
-end_there h (x ∷ bs) b t u = (t.0, end_there h bs b t.1 u)
-
 module _ (p : ℕ) (above : 1 < p) where
   closed_neat : (run : List Boolean) (last : Boolean) → Neat p (closed_script p run last) (λ h. ThereBit h last × ThereAll h run) ThereBit
   closed_neat [] last = neat_answer last (λ h. ThereBit h last × ThereAll h []) ThereBit (λ h t. t.0)
-  closed_neat (b ∷ run) last = neat_on (λ h. ThereBit h last × ThereAll h (b ∷ run)) (λ h t. end_there h (b ∷ run) last t.1 t.0) (kary_neat p above And ((b ∷ run) ++ (last ∷ [])))
+  closed_neat (b ∷ run) last = neat_on (λ h. ThereBit h last × ThereAll h (b ∷ run)) (λ h t. each_append (ThereBit h) (b ∷ run) (last ∷ []) t.1 (t.0, tt)) (kary_neat p above And ((b ∷ run) ++ (last ∷ [])))
 
   fall_neat : (run : List Boolean) (last b : Boolean) → Neat p (fall_script p run last b) (λ h. ThereBit h last × ThereAll h run × ThereBit h b) ThereBit
   fall_neat run last b =
@@ -215,15 +150,15 @@ module _ (p : ℕ) (above : 1 < p) where
   descent_neat e zero bs last run = neat_answer tt (λ h. ThereAll h bs × ThereBit h last × ThereAll h run) Silent (λ h t. tt)
   descent_neat e (suc i) bs last run =
       neat_if (bit_of e i)
-      (neat_on (λ h. ThereAll h bs × ThereBit h last × ThereAll h run) (λ h t. (t.0, t.1, end_there h run (place bs i) t.2 (place_there h bs i t.0))) (descent_neat e i bs last (run ++ (place bs i ∷ []))))
+      (neat_on (λ h. ThereAll h bs × ThereBit h last × ThereAll h run) (λ h t. (t.0, t.1, each_append (ThereBit h) run (place bs i ∷ []) t.2 (each_at (ThereBit h) bs i (Constant false) tt t.0, tt))) (descent_neat e i bs last (run ++ (place bs i ∷ []))))
       (neat_then (λ h k up t. (bits_wider h k up bs t.0, bit_wider h k up last t.1, bits_wider h k up run t.2))
-      (neat_on (λ h. ThereAll h bs × ThereBit h last × ThereAll h run) (λ h t. (t.1, t.2, place_there h bs i t.0)) (fall_neat run last (place bs i)))
+      (neat_on (λ h. ThereAll h bs × ThereBit h last × ThereAll h run) (λ h t. (t.1, t.2, each_at (ThereBit h) bs i (Constant false) tt t.0)) (fall_neat run last (place bs i)))
       (λ l. neat_on (λ h. (ThereAll h bs × ThereBit h last × ThereAll h run) × ThereBit h l) (λ h t. (t.0.0, t.1, tt)) (descent_neat e i bs l [])))
 
   walk_neat_at : (n e : ℕ) (bs : List Boolean) → Neat p (then (above_script p (drop n bs)) (λ u. descent p e n bs (Constant true) [])) (λ h. ThereAll h bs) Silent
   walk_neat_at n e bs =
       neat_then {s = above_script p (drop n bs)} (λ h k up t. bits_wider h k up bs t)
-      (neat_next (neat_on (λ h. ThereAll h bs) (λ h t. (tt, drop_there h n bs t)) (chain_neat p above or_gate (drop n bs) (Constant false))) (zero_neat p))
+      (neat_next (neat_on (λ h. ThereAll h bs) (λ h t. (tt, each_drop (ThereBit h) n bs t)) (chain_neat p above or_gate (drop n bs) (Constant false))) (zero_neat p))
       (λ u. neat_on (λ h. ThereAll h bs × Silent h u) (λ h t. (t.0, tt, tt)) (descent_neat e n bs (Constant true) []))
 
   pub walk_neat : (bs : List Boolean) (e : ℕ) → Neat p (walk_script p bs e) (λ h. ThereAll h bs) Silent

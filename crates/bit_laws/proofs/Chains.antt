@@ -21,6 +21,7 @@ use Rattle.gates.specs.Kary.{gate_of, all_of, any_of, joined, chain_from, chain_
 use Rattle.laws.specs.Law.{Val, Low, Must, total, Law, lists, There, Wider, TermsThere, Orderly}
 use Rattle.laws.specs.History.{Each}
 use Rattle.laws.proofs.Frame.{must_then, must_if, must_mono, Function, Pure, pure_then, pure_if, nothing, terms_wider}
+use Rattle.laws.proofs.Theorem.{length_lists, each_wider}
 use Rattle.bit_laws.specs.Bits.{bit_number_of, ThereBit, AllBits, truths, joined_bit, NotAll, equality, inequality}
 use Rattle.bit_laws.proofs.BitLaws.{tabled, bit_low, same_bit, known_bit}
 use Rattle.bit_laws.proofs.Choices.{bit_wider, not_fixes, gate_fixes, not_neat, gate_neat}
@@ -159,10 +160,6 @@ told_truths ρ [] e = refl
 told_truths ρ (Constant b ∷ bs) e = ap₂ (λ (x : Bool) (xs : List Bool). x ∷ xs) (sym (known_bit b)) (told_truths ρ bs e)
 told_truths ρ (Var a ∷ bs) e = absurd (true≢false (sym e))
 
-long : (ρ : Val) (bs : List Boolean) → length (lists bit_number_of ρ bs) ≡ length bs
-long ρ [] = refl
-long ρ (b ∷ bs) = ap suc (long ρ bs)
-
 -- ---- the gate
 module _ (p : ℕ) (P : Prime p) (two : 2 < p) where
   compared_fixes : (g : Wide) (k : ℕ) (s : Variable) → Fixes p (λ ρ. ρ s) allocated_number (compared g p k s) Always Always (weighed g p k)
@@ -183,7 +180,7 @@ module _ (p : ℕ) (P : Prime p) (two : 2 < p) where
       fixes_if (all_constant bs)
       (λ c. fixes_answer (Constant (joined g (told_all bs))) AllBits Always (joined_bit g) (λ ρ low h. (tt, ap (λ (ts : List Bool). bit (joined g ts)) (told_truths ρ bs c))))
       (λ c. fixes_to (λ ρ. lists bit_number_of ρ bs) (λ xs. xs) AllBits (joined_bit g) (λ ρ low. refl) (λ xs h. tt)
-      (λ ρ low h. ap (λ (k : ℕ). weighed g p k (tally (lists bit_number_of ρ bs) % p)) (sym (long ρ bs)) ∙ weighed_says g p (lists bit_number_of ρ bs) (omega (arith, long ρ bs)) h)
+      (λ ρ low h. ap (λ (k : ℕ). weighed g p k (tally (lists bit_number_of ρ bs) % p)) (sym (length_lists bit_number_of ρ bs)) ∙ weighed_says g p (lists bit_number_of ρ bs) (omega (arith, length_lists bit_number_of ρ bs)) h)
       (fixes_is Always (λ xs. weighed g p (length bs) (tally xs % p)) (λ x h. tt) (λ x h. (tt, tt)) (λ x h. refl)
       (fixes_next (sum_fixes p P.0 bs) (λ s. as_var_fixes (compared g p (length bs) s) (compared_fixes g (length bs) s)) (λ x h r. tt))))
 
@@ -207,6 +204,9 @@ module _ (p : ℕ) (P : Prime p) (two : 2 < p) where
       none true e = absurd (omega arith)
       none false e = refl
 
+  pub chain_function : (g : Wide) → Function p (lists bit_number_of) bit_number_of (chain_script g p) AllBits (joined_bit g)
+  chain_function g = fixes_function (chain_is p P two g)
+
   pub kary_function : (g : Wide) → Function p (lists bit_number_of) bit_number_of (kary_script g p) AllBits (joined_bit g)
   kary_function g = fixes_function (kary_fixes g)
 
@@ -218,8 +218,7 @@ module _ (p : ℕ) (P : Prime p) (two : 2 < p) where
 
 -- ---- in order
 pub bits_wider : (h k : There) → Wider h k → (bs : List Boolean) → Each (ThereBit h) bs → Each (ThereBit k) bs
-bits_wider h k up [] t = tt
-bits_wider h k up (b ∷ bs) t = (bit_wider h k up b t.0, bits_wider h k up bs t.1)
+bits_wider h k up bs t = each_wider ThereBit bit_wider h k up bs t
 
 terms_append : (h : There) (ts us : List Term) → TermsThere h ts → TermsThere h us → TermsThere h (ts ++ us)
 terms_append h [] us t u = u
@@ -278,6 +277,9 @@ module _ (p : ℕ) (above : 1 < p) where
 
   pub enforce_nand_neat : (bs : List Boolean) → Neat p (enforce_nand_script p bs) (λ h. ThereAll h bs) Silent
   enforce_nand_neat bs = neat_next (kary_neat And bs) (zero_neat p)
+
+  pub chain_orderly : (g : Wide) → Orderly p (chain_script g p) ThereAll ThereBit
+  chain_orderly g = neat_orderly (chain_all_neat g)
 
   pub kary_orderly : (g : Wide) → Orderly p (kary_script g p) ThereAll ThereBit
   kary_orderly g = neat_orderly (kary_neat g)

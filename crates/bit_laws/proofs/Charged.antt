@@ -1,5 +1,5 @@
 -- The bills of the gates on bits, where a system has what they name.
-use Rattle.std.proofs.Common.{◌≡◌, ℕ, ◌<◌, true, eqb, List, [], ◌∷◌}
+use Rattle.std.proofs.Common.{◌≡◌, ℕ, ◌<◌, true, eqb, List}
 use Rattle.relations.specs.declared.term.Variable.{Variable}
 use Rattle.relations.specs.Sum.{code}
 use Rattle.relations.specs.Meaning.{Meaning, has}
@@ -12,6 +12,7 @@ use Rattle.gates.specs.Kary.{chain_script, kary_script, nand_script, enforce_nan
 use Rattle.gates.specs.Walk.{walk_script}
 use Rattle.laws.specs.History.{Each}
 use Rattle.laws.specs.Bill.{names, charges}
+use Rattle.bit_laws.proofs.Lists.{each_mono}
 use Rattle.bit_laws.specs.Bits.{real, RealBit, ThereBit}
 use Rattle.bit_laws.specs.Bills.{shadow, shadows, same_name, not_due, gate_due, is_eq_due, select_due, equal_due, unequal_due, zero_due, differ_bill, is_eq_bill, is_neq_bill, chain_all_due, kary_due, nand_due, enforce_nand_due, walk_due}
 use Rattle.bit_laws.proofs.BitLaws.{gate_call}
@@ -35,8 +36,7 @@ older : (m : Meaning) (v : Variable) → Standing m v → Older (names m) v
 older m v h = older_there m v h.0 h.1
 
 all_old : (m : Meaning) (bs : List Boolean) → Each (Stands m) bs → AllOld (names m) bs
-all_old m [] h = tt
-all_old m (b ∷ bs) h = (old m b h.0, all_old m bs h.1)
+all_old m bs h = each_mono (Stands m) (OldBit (names m)) (old m) bs h
 
 module _ (p : ℕ) (two : 2 < p) (m : Meaning) where
   -- ---- bits

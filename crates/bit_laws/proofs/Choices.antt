@@ -10,7 +10,7 @@ use Rattle.allocated.specs.declared.allocated.AllocatedBool.{AllocatedBool}
 use Rattle.boolean.specs.declared.bits.Boolean.{Boolean}
 use Rattle.boolean.specs.declared.bits.Boolean.TheVariants.{Constant, Var}
 use Rattle.allocated.specs.Gates.{truth, choice_script}
-use Rattle.boolean.specs.Booleans.{as_var, not_script, is_eq_script, select_script}
+use Rattle.boolean.specs.Booleans.{as_var, folded_script, not_script, is_eq_script, select_script}
 use Rattle.laws.specs.Law.{Val, There, Wider, Orderly}
 use Rattle.laws.proofs.Frame.{Function}
 use Rattle.bit_laws.specs.Bits.{bit_number_of, ThereBit, equality, picked, Three}
@@ -64,6 +64,15 @@ choice_met p c a b w pos hc e = go c refl hc e
     go zero e h f = by_mod p pos (c ∷ a ∷ b ∷ w ∷ []) (puts e (search reads) (puts f (search reads) none)) (search reads depth 9) done
     go (suc zero) e h f = by_mod p pos (c ∷ a ∷ b ∷ w ∷ []) (puts e (search reads) (puts f (search reads) none)) (search reads depth 9) done
     go (suc (suc x)) e h f = absurd (omega arith)
+
+-- a gate on a constant and a bit is that gate
+pub folded_is : (g : Gate) (p : ℕ) (x : Bool) (b : Boolean) → folded_script g p x b ≡ gate_call g p (Constant x, b)
+folded_is And p true b = refl
+folded_is And p false b = refl
+folded_is Or p true b = refl
+folded_is Or p false b = refl
+folded_is Xor p true b = refl
+folded_is Xor p false b = refl
 
 module _ (p : ℕ) (P : Prime p) (two : 2 < p) where
   pub not_fixes : (a : Boolean) → Fixes p (λ ρ. bit_number_of ρ a) bit_number_of (not_script p a) (λ x. x ≤ 1) Always flipped
@@ -160,6 +169,12 @@ module _ (p : ℕ) (above : 1 < p) where
   select_neat (Var c) (Constant true) (Var b) = neat_on (λ h. ThereThree h (Var c, Constant true, Var b)) (λ h t. (t.0, t.2)) (gate_neat Or (Var c) (Var b))
   select_neat (Var c) (Var a) (Constant true) = neat_on (λ h. ThereThree h (Var c, Var a, Constant true)) (λ h t. (t.0, t.1)) (turned_neat Or (Var c) (Var a))
   select_neat (Var c) (Var a) (Var b) = choice_neat c a b
+
+  pub not_orderly : Orderly p (not_script p) ThereBit ThereBit
+  not_orderly = neat_orderly not_neat
+
+  pub gate_orderly : (g : Gate) → Orderly p (gate_call g p) ThereTwo ThereBit
+  gate_orderly g = neat_orderly (λ i. gate_neat g i.0 i.1)
 
   pub is_eq_orderly : Orderly p (λ i. is_eq_script p i.0 i.1) ThereTwo ThereBit
   is_eq_orderly = neat_orderly (λ i. is_eq_neat i.0 i.1)

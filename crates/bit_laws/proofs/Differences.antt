@@ -20,7 +20,7 @@ use Rattle.bit_laws.proofs.Statements.{less_says}
 use Rattle.bit_laws.proofs.Fixes.{Fixes, Always, fixes_next, fixes_is, fixes_pure, fixes_function, Neat, neat_next, neat_orderly}
 
 -- ---- the search for an inverse
-seek_below : (p a n : ℕ) → 0 < p → n ≤ p → seek p a n < p
+pub seek_below : (p a n : ℕ) → 0 < p → n ≤ p → seek p a n < p
 seek_below p a zero pos le = pos
 seek_below p a (suc n) pos le = go (eqb ((a * n) % p) 1) (seek_below p a n pos (omega arith))
   where
@@ -28,7 +28,7 @@ seek_below p a (suc n) pos le = go (eqb ((a * n) % p) 1) (seek_below p a n pos (
     go true h = le
     go false h = h
 
-seek_finds : (p a n x : ℕ) → x < n → (a * x) % p ≡ 1 → (a * seek p a n) % p ≡ 1
+pub seek_finds : (p a n x : ℕ) → x < n → (a * x) % p ≡ 1 → (a * seek p a n) % p ≡ 1
 seek_finds p a zero x lt h = absurd (omega arith)
 seek_finds p a (suc n) x lt h = go (eqb ((a * n) % p) 1) refl (λ below. seek_finds p a n x below h)
   where
@@ -39,10 +39,10 @@ seek_finds p a (suc n) x lt h = go (eqb ((a * n) % p) 1) refl (λ below. seek_fi
         f (omega arith)
 
 -- it finds the inverse modulo a prime
-inverse_is : (p a : ℕ) → Prime p → 0 < a → a < p → (a * inverse p a) % p ≡ 1
+pub inverse_is : (p a : ℕ) → Prime p → 0 < a → a < p → (a * inverse p a) % p ≡ 1
 inverse_is p a P pos lt = let i = inverses p P a pos lt in seek_finds p a p i.0 i.1 i.2
 
-multiplier_below : (p x y : ℕ) → 1 < p → multiplier p x y < p
+pub multiplier_below : (p x y : ℕ) → 1 < p → multiplier p x y < p
 multiplier_below p x y above = go (eqb x y)
   where
     go : (b : Bool) → cond b 1 (inverse p (gap p x y)) < p

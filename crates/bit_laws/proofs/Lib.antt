@@ -1,6 +1,7 @@
 pub mod Rows
 pub mod BitLaws
 pub mod BitOrder
+pub mod Lists
 pub mod Fixes
 pub mod Choices
 pub mod Statements

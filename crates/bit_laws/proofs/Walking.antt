@@ -1,6 +1,7 @@
 -- A walk down from a bound's top bit holds exactly where the bits spell at most the bound.
 use Rattle.std.proofs.Common.{◌≡◌, ◌↔◌, ℕ, zero, suc, ◌+◌, ◌*◌, ◌/◌, ◌%◌, ◌^◌, ◌<◌, ◌≤◌, Bool, true, false, ◌&&◌, eqb, List, [], ◌∷◌, drop, get_or, sym, refl, ap, ap₂, ◌∙◌, subst, arith, true≢false, pow-suc, div-one, cond, mul-zero, mod-lt, pow_pos}
 use native.Mathlib.Nat.{div-add-mod, div-div-eq-div-mul, div-eq_of_lt}
+use Rattle.arith.proofs.Sums.{summed}
 use Rattle.allocated.specs.Gates.{bit}
 use Rattle.gates.specs.Kary.{any_of}
 use Rattle.gates.specs.Walk.{bit_of, bits_up_to}
@@ -140,6 +141,14 @@ walk_is n e bs lt = (
 pub spelled_is : (xs : List ℕ) → AllBits xs → spelled xs ≡ weigh (truths xs)
 spelled_is [] h = refl
 spelled_is (x ∷ xs) h = ap₂ (λ (a b : ℕ). a + 2 * b) (same_bit x h.0) (spelled_is xs h.1)
+
+-- it is the sum of each with its own power of two
+pub spelled_sum : (i : ℕ) (xs : List ℕ) → summed i xs ≡ 2 ^ i * spelled xs
+spelled_sum i [] = sym (mul-zero (2 ^ i))
+spelled_sum i (x ∷ xs) = ap (λ (t : ℕ). 2 ^ i * x + t) (spelled_sum (suc i) xs ∙ ap (λ (t : ℕ). t * spelled xs) (pow-suc 2 i)) ∙ flat (2 ^ i) x (spelled xs)
+  where
+    flat : (t b w : ℕ) → t * b + t * 2 * w ≡ t * (b + 2 * w)
+    flat t b w = omega arith
 
 -- a number below 2 ^ n has so many bits
 pub bits_enough : (e n : ℕ) → e < 2 ^ n → e < 2 ^ bits_up_to e n

@@ -19,6 +19,9 @@ use Rattle.gates.specs.declared.wide.Wide.TheVariants.{And, Or}
 use Rattle.gates.specs.Kary.{gate_of, joined, chain_from, chain_script, ones, summands, topped, sum_script, compared, all_constant, told_all, summed_script, sums, kary_script, nand_script, enforce_nand_script}
 use Rattle.laws.specs.History.{Each}
 use Rattle.laws.specs.Bill.{Charge, takes_variable, takes_combination, takes_row, Next}
+use lib.ListN.{length-map}
+use Rattle.laws.proofs.Theorem.{each_append}
+use Rattle.bit_laws.proofs.Lists.{each_mono}
 use Rattle.bit_laws.specs.Bills.{shadow, shadows, Due, owes, quits, due_then, not_due, zero_due, gate_due, differ_bill, is_eq_bill, is_neq_bill, chain_due, chain_all_due, variables, one_count, topped_bill, sum_bill, compared_bill, all_known, values_of, summed_due, kary_due, nand_due, enforce_nand_due}
 use Rattle.bit_laws.proofs.Sizes.{one_some, just_size, less_size, between_size, ones_size, more_size}
 use Rattle.bit_laws.proofs.Owes.{Older, Later, older_real, older_later, combination_apart, OldBit, old_later, Owes, owes_then, owes_answer, owes_refuse, owes_combine, owes_if, owes_as}
@@ -29,8 +32,7 @@ abbrev pub AllOld : Next → List Boolean → Type 0
 AllOld n bs = Each (OldBit n) bs
 
 pub all_later : (n k : Next) → Later n k → (bs : List Boolean) → AllOld n bs → AllOld k bs
-all_later n k l [] h = tt
-all_later n k l (b ∷ bs) h = (old_later n k l b h.0, all_later n k l bs h.1)
+all_later n k l bs h = each_mono (OldBit n) (OldBit k) (λ b q. old_later n k l b q) bs h
 
 -- ---- a chain of a gate that doesn't ask whether its operands are one variable
 abbrev pub Plain : Gate → Type 0
@@ -105,14 +107,6 @@ distinct_end (d ∷ cs) c h l = (apart cs h.0, distinct_end cs c h.1 l.1)
     apart [] a = (λ e. let q = l.0 in omega arith, tt)
     apart (e ∷ es) a = (a.0, apart es a.1)
 
-each_end : (b c : ℕ) (cs : List ℕ) → Each (λ d. d < b) cs → b ≤ c → Each (λ d. d < c + 1) (cs ++ (c ∷ []))
-each_end b c [] h le = (omega arith, tt)
-each_end b c (d ∷ cs) h le = (let q = h.0 in omega arith, each_end b c cs h.1 le)
-
-each_up : (b c : ℕ) → b ≤ c → (cs : List ℕ) → Each (λ d. d < b) cs → Each (λ d. d < c) cs
-each_up b c le [] h = tt
-each_up b c le (d ∷ cs) h = (let q = h.0 in omega arith, each_up b c le cs h.1)
-
 terms_end : (cs : List ℕ) (c : ℕ) → terms_at cs ++ just (Combination c) ≡ terms_at (cs ++ (c ∷ []))
 terms_end [] c = refl
 terms_end (d ∷ cs) c = ap (λ (ts : List Term). times 1 (Combination d) ∷ ts) (terms_end cs c)
@@ -161,7 +155,7 @@ module _ (p : ℕ) (two : 2 < p) where
       (λ m x up q.
       let c : ℕ = n.place + 1 in
       subst (λ (ts : List Term). Owes p m (summands bs ts) unseen (Made k) (owes (replicate (variables (shadows bs)) (takes_combination 1)) tt)) (sym (ap (λ (v : Variable). terms_at cs ++ just v) q.0 ∙ terms_end cs c))
-      (summands_owes bs (cs ++ (c ∷ [])) k m (all_later n m up bs h.1) (distinct_end cs c d (each_up n.place c (omega arith) cs l)) (each_up (c + 1) m.place (let r = q.1 in omega arith) (cs ++ (c ∷ [])) (each_end n.place c cs l (omega arith))) (omega (arith, length_end cs c)))))
+      (summands_owes bs (cs ++ (c ∷ [])) k m (all_later n m up bs h.1) (distinct_end cs c d (each_mono (λ d. d < n.place) (λ d. d < c) (λ d q. omega arith) cs l)) (each_append (λ d. d < m.place) cs (c ∷ []) (each_mono (λ d. d < n.place) (λ d. d < m.place) (λ d r. let u = q.1 in omega arith) cs l) (q.1, tt)) (omega (arith, length_end cs c)))))
 
   topped_owes : (k : ℕ) (s : Variable) (n : Next) → Older n s → k < p → Owes p n (topped k s) unseen Older (owes (topped_bill k) tt)
   topped_owes k s n h lt = go (eqb k 0) refl
@@ -256,13 +250,9 @@ module _ (p : ℕ) (two : 2 < p) where
       told_is (Constant b ∷ bs) = ap (λ (l : List Bool). b ∷ l) (told_is bs)
       told_is (Var a ∷ bs) = ap (λ (l : List Bool). false ∷ l) (told_is bs)
 
-  long_shadows : (bs : List Boolean) → length bs ≡ length (shadows bs)
-  long_shadows [] = refl
-  long_shadows (b ∷ bs) = ap suc (long_shadows bs)
-
   pub kary_owes : (g : Wide) (bs : List Boolean) (n : Next) → AllOld n bs → Owes p n (kary_script g p bs) shadow OldBit (kary_due g p (shadows bs))
   kary_owes g bs n h =
-      subst (λ (k : ℕ). Owes p n (kary_script g p bs) shadow OldBit (cond (sums k) (cond (leb p k) (quits TooManyMembers) (summed_due g (shadows bs))) (chain_all_due g (shadows bs)))) (long_shadows bs)
+      subst (λ (k : ℕ). Owes p n (kary_script g p bs) shadow OldBit (cond (sums k) (cond (leb p k) (quits TooManyMembers) (summed_due g (shadows bs))) (chain_all_due g (shadows bs)))) (sym (length-map bs shadow))
       (owes_if (sums (length bs))
       (λ e. owes_if (leb p (length bs)) (λ f. owes_refuse TooManyMembers shadow OldBit) (λ f. summed_owes g bs n h (let q = leb-true 4 (length bs) e in omega arith) (leb-false p (length bs) f)))
       (λ e. chain_all_owes p two g bs n h))

@@ -1,5 +1,5 @@
 -- What the gates on bits ask of a system, by which of their operands are constants, and which are one variable.
-use Rattle.std.specs.Prelude.{ℕ, zero, suc, ◌+◌, Bool, true, false, not, cond, List, [], ◌∷◌, ◌++◌, length, drop, replicate, Some, None, Option, ◌==◌, nat_le, slice_index_or}
+use Rattle.std.specs.Prelude.{ℕ, zero, suc, ◌+◌, Bool, true, false, not, cond, List, [], ◌∷◌, ◌++◌, map, length, drop, replicate, Some, None, Option, ◌==◌, nat_le, slice_index_or}
 use Rattle.relations.specs.declared.fault.GadgetFault.{GadgetFault}
 use Rattle.relations.specs.declared.fault.GadgetFault.TheVariants.{Unsatisfiable, TooManyMembers}
 use Rattle.relations.specs.declared.term.Side.TheVariants.{Witness as witness}
@@ -21,9 +21,9 @@ abbrev pub shadow : Boolean → Option Bool
 shadow (Constant b) = Some b
 shadow (Var a) = None
 
+-- those of a list
 abbrev pub shadows : List Boolean → List (Option Bool)
-shadows [] = []
-shadows (b ∷ bs) = shadow b ∷ shadows bs
+shadows bs = map shadow bs
 
 -- whether two bits are one variable
 abbrev pub same_name : Boolean → Boolean → Bool
@@ -35,12 +35,14 @@ same_name (Var a) (Var b) = code a.variable == code b.variable
 abbrev pub Due : Type 0 → Type 0
 Due A = List Charge × Option A
 
+-- a bill after which this is known of the answer, and one that is a refusal
 abbrev pub owes : {A : Type 0} → List Charge → A → Due A
 owes cs a = (cs, Some a)
 
 abbrev pub quits : {A : Type 0} → GadgetFault → Due A
 quits f = (stops f ∷ [], None)
 
+-- what follows is due too, unless the bill ended in a refusal
 abbrev pub goes_on : {A B : Type 0} → List Charge → Option A → (A → Due B) → Due B
 goes_on cs None k = (cs, None)
 goes_on cs (Some a) k = (cs ++ (k a).0, (k a).1)
@@ -50,6 +52,7 @@ abbrev pub due_then : {A B : Type 0} → Due A → (A → Due B) → Due B
 due_then d k = goes_on d.0 d.1 k
 
 -- ---- bits: in place of each operand its shadow, and same says whether two of them are one variable
+-- a combination of two terms, unless the operand is constant
 abbrev pub not_due : Option Bool → Due (Option Bool)
 not_due (Some b) = owes [] (Some (not b))
 not_due None = owes (takes_combination 2 ∷ []) None
@@ -58,7 +61,7 @@ not_due None = owes (takes_combination 2 ∷ []) None
 abbrev pub output_due : ℕ → Due (Option Bool)
 output_due k = owes (takes_variable witness true ∷ (takes_row k ∷ [])) None
 
--- the row of a gate on two variables: 3 terms for and, 6 for or, 5 for xor and 4 where its operands are one variable
+-- a constant beside another operand folds, but for a one beside a variable under xor, which is its not. The row of a gate on two variables: 3 terms for and, 6 for or, 5 for xor and 4 where its operands are one variable
 abbrev pub gate_due : Gate → Bool → Option Bool → Option Bool → Due (Option Bool)
 gate_due and_gate same (Some true) b = owes [] b
 gate_due and_gate same (Some false) b = owes [] (Some false)
@@ -76,7 +79,7 @@ gate_due xor_gate same None (Some true) = not_due None
 gate_due xor_gate same None (Some false) = owes [] None
 gate_due xor_gate same None None = output_due (cond same 4 5)
 
--- equality
+-- equality: the not of xor
 abbrev pub is_eq_due : Bool → Option Bool → Option Bool → Due (Option Bool)
 is_eq_due same a b = due_then (gate_due xor_gate same a b) not_due
 
@@ -123,6 +126,7 @@ together_terms same None (Some true) = 2
 together_terms same None (Some false) = 1
 together_terms same None None = cond same 1 2
 
+-- where a condition is 1, two bits are equal, or differ
 abbrev pub equal_due : Bool → Option Bool → Option Bool → Option Bool → Due (Unit {0})
 equal_due same (Some a) (Some b) c = on_due (not (differ a b)) c
 equal_due same (Some a) None c = under_due c (difference_terms same (Some a) None + 1)
@@ -133,6 +137,7 @@ unequal_due same (Some a) (Some b) c = on_due (differ a b) c
 unequal_due same (Some a) None c = under_due c (together_terms same (Some a) None + 2)
 unequal_due same None b c = under_due c (together_terms same None b + 2)
 
+-- a bit is 0
 abbrev pub zero_due : Option Bool → Due (Unit {0})
 zero_due (Some true) = quits Unsatisfiable
 zero_due (Some false) = owes [] tt
@@ -154,6 +159,7 @@ abbrev pub chain_due : Gate → Option Bool → List (Option Bool) → Due (Opti
 chain_due g cur [] = owes [] cur
 chain_due g cur (b ∷ bs) = due_then (gate_due g false cur b) (λ c. chain_due g c bs)
 
+-- from the first of some
 abbrev pub chain_all_due : Wide → List (Option Bool) → Due (Option Bool)
 chain_all_due g [] = owes [] (Some (joined g []))
 chain_all_due g (b ∷ bs) = chain_due (gate_of g) b bs
@@ -193,12 +199,15 @@ values_of [] = []
 values_of (Some b ∷ bs) = b ∷ values_of bs
 values_of (None ∷ bs) = false ∷ values_of bs
 
+-- constants fold; else the sum is compared, and the answer is a variable
 abbrev pub summed_due : Wide → List (Option Bool) → Due (Option Bool)
 summed_due g bs = cond (all_known bs) (owes [] (Some (joined g (values_of bs)))) (owes (sum_bill bs ++ compared_bill g) None)
 
+-- a sum from four members on, of fewer than p; a chain of fewer
 abbrev pub kary_due : Wide → ℕ → List (Option Bool) → Due (Option Bool)
 kary_due g p bs = cond (sums (length bs)) (cond (nat_le p (length bs)) (quits TooManyMembers) (summed_due g bs)) (chain_all_due g bs)
 
+-- whether not all members are one, and that they are not
 abbrev pub nand_due : ℕ → List (Option Bool) → Due (Option Bool)
 nand_due p bs = due_then (kary_due And p bs) not_due
 
@@ -206,20 +215,25 @@ abbrev pub enforce_nand_due : ℕ → List (Option Bool) → Due (Unit {0})
 enforce_nand_due p bs = due_then (kary_due And p bs) zero_due
 
 -- ---- the bound on what bits spell
+-- the bits above the bound's
 abbrev pub above_due : List (Option Bool) → Due (Unit {0})
 above_due bs = due_then (chain_due or_gate (Some false) bs) zero_due
 
+-- the end of a run of ones
 abbrev pub closed_due : ℕ → List (Option Bool) → Option Bool → Due (Option Bool)
 closed_due p [] last = owes [] last
 closed_due p (b ∷ bs) last = kary_due And p ((b ∷ bs) ++ (last ∷ []))
 
+-- a zero of the bound
 abbrev pub fall_due : ℕ → List (Option Bool) → Option Bool → Option Bool → Due (Option Bool)
 fall_due p run last b = due_then (closed_due p run last) (λ l. due_then (enforce_nand_due p (l ∷ (b ∷ []))) (λ u. owes [] l))
 
+-- from place i down
 abbrev pub descent_due : ℕ → ℕ → ℕ → List (Option Bool) → Option Bool → List (Option Bool) → Due (Unit {0})
 descent_due p e zero bs last run = owes [] tt
 descent_due p e (suc i) bs last run =
     cond (bit_of e i) (descent_due p e i bs last (run ++ (slice_index_or bs i (Some false) ∷ []))) (due_then (fall_due p run last (slice_index_or bs i (Some false))) (λ l. descent_due p e i bs l []))
 
+-- the whole walk
 abbrev pub walk_due : ℕ → List (Option Bool) → ℕ → Due (Unit {0})
 walk_due p bs e = due_then (above_due (drop (bit_length e) bs)) (λ u. descent_due p e (bit_length e) bs (Some true) [])

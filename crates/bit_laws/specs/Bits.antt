@@ -1,5 +1,5 @@
 -- The numbers that an assignment gives to bits, and which bits are there.
-use Rattle.std.specs.Prelude.{◌≡◌, ◌≢◌, ℕ, ◌+◌, ◌*◌, ◌≤◌, Bool, true, false, not, cond, List, [], ◌∷◌, Some, None, Option, ◌==◌}
+use Rattle.std.specs.Prelude.{◌≡◌, ◌≢◌, ℕ, ◌+◌, ◌*◌, ◌≤◌, Bool, true, false, not, cond, List, [], ◌∷◌, map, Some, None, Option, ◌==◌}
 use Rattle.relations.specs.declared.term.Variable.{Variable}
 use Rattle.relations.specs.declared.term.Variable.TheVariants.{One, Zero, Input, Witness, Combination}
 use Rattle.boolean.specs.declared.mode.AllocationMode.{AllocationMode}
@@ -11,6 +11,7 @@ use Rattle.gates.specs.declared.wide.Wide.{Wide}
 use Rattle.gates.specs.declared.wide.Wide.TheVariants.{And}
 use Rattle.gates.specs.Kary.{joined}
 use Rattle.laws.specs.Law.{There}
+use Rattle.laws.specs.History.{Each}
 
 -- the number that an assignment ρ gives to a bit
 abbrev pub bit_number_of : (Variable → ℕ) → Boolean → ℕ
@@ -69,14 +70,13 @@ abbrev pub Three : ℕ × ℕ × ℕ → Type 0
 Three x = (x.0 ≤ 1) × (x.1 ≤ 1) × (x.2 ≤ 1)
 
 -- ---- lists of bits
+-- each is 0 or 1
 abbrev pub AllBits : List ℕ → Type 0
-AllBits [] = Unit {0}
-AllBits (x ∷ xs) = (x ≤ 1) × AllBits xs
+AllBits xs = Each (λ x. x ≤ 1) xs
 
 -- their truth values
 abbrev pub truths : List ℕ → List Bool
-truths [] = []
-truths (x ∷ xs) = truth x ∷ truths xs
+truths xs = map truth xs
 
 -- the number of a gate of many bits
 abbrev pub joined_bit : Wide → List ℕ → ℕ

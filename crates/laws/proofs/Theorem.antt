@@ -18,12 +18,12 @@ use Rattle.laws.proofs.Values.{values_solve, assignment_of, assignment_agrees, o
 
 -- ---- lists
 -- the numbers of two lists of answers
-lists_append : {A : Type 0} (num : Val → A → ℕ) (ρ : Val) (xs ys : List A) → lists num ρ (xs ++ ys) ≡ lists num ρ xs ++ lists num ρ ys
+pub lists_append : {A : Type 0} (num : Val → A → ℕ) (ρ : Val) (xs ys : List A) → lists num ρ (xs ++ ys) ≡ lists num ρ xs ++ lists num ρ ys
 lists_append num ρ [] ys = refl
 lists_append num ρ (x ∷ xs) ys = ap (λ (l : List ℕ). num ρ x ∷ l) (lists_append num ρ xs ys)
 
 -- as many numbers as answers
-length_lists : {A : Type 0} (num : Val → A → ℕ) (ρ : Val) (xs : List A) → length (lists num ρ xs) ≡ length xs
+pub length_lists : {A : Type 0} (num : Val → A → ℕ) (ρ : Val) (xs : List A) → length (lists num ρ xs) ≡ length xs
 length_lists num ρ [] = refl
 length_lists num ρ (x ∷ xs) = ap (λ (n : ℕ). suc n) (length_lists num ρ xs)
 
@@ -36,7 +36,7 @@ same_split xs ys us vs e q =
     )
 
 -- of each in both parts
-each_append : {A : Type 0} (P : A → Type 0) (xs ys : List A) → Each P xs → Each P ys → Each P (xs ++ ys)
+pub each_append : {A : Type 0} (P : A → Type 0) (xs ys : List A) → Each P xs → Each P ys → Each P (xs ++ ys)
 each_append P [] ys h k = k
 each_append P (x ∷ xs) ys h k = (h.0, each_append P xs ys h.1 k)
 
