@@ -1,175 +1,225 @@
--- The commands, whose operands are found in a book.
-use Rattle.std.proofs.Common.{◌≡◌, ℕ, zero, suc, ◌≤◌, ◌<◌, Bool, true, false, List, [], ◌∷◌, length, get_or, sym, refl, ap, ◌∙◌, subst, arith}
+-- What is shown of each command.
+use Rattle.std.proofs.Common.{◌≡◌, ℕ, ◌+◌, ◌^◌, ◌<◌, ◌≤◌, Bool, true, false, not, cond, List, [], ◌∷◌, length, get_or, Some, None, Option, sym, refl, ap, ◌∙◌, subst, arith, mod-lt, lit<}
 use lib.ListN.{length-map}
 use borrow.Author.Tests.{true-ltb}
 use Rattle.std.proofs.lemmas.List.{get_or-map}
 use Rattle.arith.specs.Number.{Prime}
+use Rattle.relations.specs.declared.term.Variable.TheVariants.{Input, Witness}
 use Rattle.relations.specs.Meaning.{number}
+use Rattle.relations.specs.declared.term.Side.TheVariants.{Input as input, Witness as witness}
 use Rattle.relations.specs.Script.{answer}
 use Rattle.boolean.specs.declared.bits.Boolean.TheVariants.{Constant, Var}
+use Rattle.boolean.specs.declared.mode.AllocationMode.{AllocationMode}
+use Rattle.boolean.specs.declared.mode.AllocationMode.TheVariants.{Constant as as_constant, Input as as_input, Witness as as_witness}
 use Rattle.allocated.specs.declared.gate.Gate.{Gate}
-use Rattle.allocated.specs.Gates.{bit, bit_number}
-use Rattle.boolean.specs.Booleans.{alloc_script, not_script}
+use Rattle.allocated.specs.Gates.{bit, truth, bit_number}
+use Rattle.boolean.specs.Booleans.{alloc_script, not_script, is_eq_script, select_script, equal_script, unequal_script}
+use Rattle.gates.specs.declared.wide.Wide.TheVariants.{And as all, Or as some}
+use Rattle.gates.specs.Kary.{all_of, kary_script, nand_script, enforce_nand_script}
+use Rattle.gates.specs.Walk.{walk_script}
 use Rattle.command.specs.declared.commands.Kind.TheVariants.{Number as a_number}
+use Rattle.command.specs.declared.commands.Range.{Range}
+use Rattle.command.specs.declared.commands.Kary.{Kary}
+use Rattle.command.specs.declared.commands.Kary.TheVariants.{And, Or, Nand, EnforceNand}
+use Rattle.command.specs.declared.commands.Claim.{Claim}
+use Rattle.command.specs.declared.commands.Claim.TheVariants.{Equal, Unequal}
 use Rattle.command.specs.declared.commands.Command.{Command}
-use Rattle.command.specs.declared.commands.Command.TheVariants.{Bit as BitCommand, Clone, Not, Gated}
+use Rattle.command.specs.declared.commands.Command.TheVariants.{Bit as BitCommand, Clone, Not, Gated, Kary as KaryCommand, IsEqual, Select, Enforce, AtMost}
 use Rattle.command.specs.declared.answers.Answer.{Answer}
 use Rattle.command.specs.declared.answers.Answer.TheVariants.{Bit}
 use Rattle.command.specs.Decide.{fits, answers}
-use Rattle.command.specs.Answers.{kind_of, kinds, mode_of, value_of, answer_at, bit_at, as_bit, command_script}
-use Rattle.laws.specs.Law.{Val, Law, There, Wider}
+use Rattle.command.specs.Answers.{kind_of, kinds, mode_of, value_of, element_of, answer_at, bit_at, bits_at, command_script}
+use Rattle.laws.specs.Law.{Val, There, Wider, lists}
 use Rattle.laws.specs.Runs.{Agree}
 use Rattle.laws.specs.History.{Each, Along}
-use Rattle.laws.proofs.Frame.{Is, function_law, function_pure, law_on, law_one}
-use Rattle.readings.specs.Readings.{number_of, numbers_of, OneReading, Reading, BoundedByKind, NamesThere}
-use Rattle.readings.specs.Decision.{Real}
-use Rattle.bit_laws.specs.Bits.{bit_number_of, ThereBit}
-use Rattle.bit_laws.proofs.BitOrder.{not_sees, new_sees, gate_sees, new_tidy, not_tidy, gate_tidy, new_steady, not_steady, gate_steady}
-use Rattle.bit_laws.proofs.BitLaws.{pair, flipped, tabled, Bits, gate_call, not_function, gate_function, new_law}
-use Rattle.readings.proofs.OnBook.{RealBit, Served, serve_bit, first_of}
-use Rattle.readings.proofs.Proper.{not_real, new_real, gate_real}
+use Rattle.laws.specs.Bill.{takes_variable, takes_row, Next, names}
+use Rattle.laws.proofs.Frame.{Is, function_law, function_pure, law_one}
+use Rattle.bit_laws.specs.Bits.{bit_number_of, ThereBit, Three, AllBits, EqualIf, UnequalIf, NotAll, equality, picked, joined_bit, truths, spelled}
+use Rattle.bit_laws.specs.Bills.{shadow, shadows, same_name, not_due, gate_due, is_eq_due, select_due, equal_due, unequal_due, kary_due, nand_due, enforce_nand_due, walk_due}
+use Rattle.bit_laws.proofs.BitLaws.{pair, flipped, tabled, Bits, bit_low, gate_call, not_function, gate_function, New, new_law}
+use Rattle.bit_laws.proofs.BitOrder.{new_sees, new_tidy, new_steady}
+use Rattle.bit_laws.proofs.Choices.{triple, ThereTwo, ThereThree, is_eq_function, select_function, not_orderly, gate_orderly, is_eq_orderly, select_orderly}
+use Rattle.bit_laws.proofs.Statements.{equal_law, unequal_law, equal_orderly, unequal_orderly}
+use Rattle.bit_laws.proofs.Chains.{ThereAll, kary_function, nand_function, enforce_nand_law, kary_orderly, nand_orderly, enforce_nand_orderly}
+use Rattle.bit_laws.proofs.Bound.{walk_law, walk_orderly}
+use Rattle.bit_laws.proofs.Owes.{Owes, OldBit}
+use Rattle.bit_laws.proofs.Sizes.{one_some, just_size, less_size}
+use Rattle.bit_laws.proofs.BitBills.{not_owes, gate_owes, is_eq_owes, select_owes, equal_owes, unequal_owes}
+use Rattle.bit_laws.proofs.WideBills.{kary_owes, nand_owes, enforce_nand_owes}
+use Rattle.bit_laws.proofs.BoundBills.{walk_owes}
+use Rattle.readings.specs.Readings.{number_of, numbers_of, numbers_at, Reading, BoundedByKind, NamesThere}
+use Rattle.readings.specs.Decision.{new_due, bill, Real}
+use Rattle.readings.proofs.OnBook.{Served, serve_bit, serve_statement, asks_function, states_law, first_of}
+use Rattle.readings.proofs.Operands.{answer_same, bit_same, range_same, there_at, there_bit_at, there_range, real_at, old_at, old_range, low_at, low_range}
 
--- ---- operands in the book
-pub answer_same : (ρ : Val) (bk : List Answer) (a : ℕ) → number_of ρ (answer_at bk a) ≡ get_or (numbers_of ρ bk) a 0
-answer_same ρ [] a = refl
-answer_same ρ (x ∷ bk) zero = refl
-answer_same ρ (x ∷ bk) (suc a) = answer_same ρ bk a
-
-as_bit_number : (ρ : Val) (x : Answer) → bit_number_of ρ (as_bit x) ≡ number_of ρ x
-as_bit_number ρ (Bit b) = refl
-
-pub bit_same : (ρ : Val) (bk : List Answer) (a : ℕ) → bit_number_of ρ (bit_at bk a) ≡ get_or (numbers_of ρ bk) a 0
-bit_same ρ bk a = as_bit_number ρ (answer_at bk a) ∙ answer_same ρ bk a
-
--- what an answer of the book is, where something holds of each
-pub each_at : (P : Answer → Type 0) → P (Bit (Constant false)) → (bk : List Answer) (a : ℕ) → Each P bk → P (answer_at bk a)
-each_at P d [] a e = d
-each_at P d (x ∷ bk) zero e = e.0
-each_at P d (x ∷ bk) (suc a) e = each_at P d bk a e.1
-
-pub there_at : (h : There) (bk : List Answer) (a : ℕ) → Each (NamesThere h) bk → NamesThere h (answer_at bk a)
-there_at h bk a e = each_at (NamesThere h) tt bk a e
-
-there_bit : (h : There) (x : Answer) → NamesThere h x → ThereBit h (as_bit x)
-there_bit h (Bit b) t = t
-
-pub there_bit_at : (h : There) (bk : List Answer) (a : ℕ) → Each (NamesThere h) bk → ThereBit h (bit_at bk a)
-there_bit_at h bk a e = there_bit h (answer_at bk a) (there_at h bk a e)
-
-real_bit : (x : Answer) → Real x → RealBit (as_bit x)
-real_bit (Bit b) r = r
-
-pub real_at : (bk : List Answer) (a : ℕ) → Each Real bk → Real (answer_at bk a)
-real_at bk a e = each_at Real tt bk a e
-
-pub real_bit_at : (bk : List Answer) (a : ℕ) → Each Real bk → RealBit (bit_at bk a)
-real_bit_at bk a e = real_bit (answer_at bk a) (real_at bk a e)
-
--- ---- one command
--- what must be known of its operands
+-- ---- what must be known of operands: those that are read are bits
 abbrev pub Pre : Command → List ℕ → Type 0
 Pre (BitCommand m v) xs = Unit {0}
 Pre (Clone a) xs = Unit {0}
 Pre (Not a) xs = get_or xs a 0 ≤ 1
-Pre (Gated g a b) xs = (get_or xs a 0 ≤ 1) × (get_or xs b 0 ≤ 1)
+Pre (Gated g a b) xs = Bits (get_or xs a 0, get_or xs b 0)
+Pre (KaryCommand k r) xs = AllBits (numbers_at xs r)
+Pre (IsEqual a b) xs = Bits (get_or xs a 0, get_or xs b 0)
+Pre (Select c a b) xs = Three (get_or xs c 0, get_or xs a 0, get_or xs b 0)
+Pre (Enforce e a b c) xs = Three (get_or xs a 0, get_or xs b 0, get_or xs c 0)
+Pre (AtMost r e) xs = AllBits (numbers_at xs r)
 
--- for which operands it can be obeyed
+-- ---- for which operands a command can be obeyed
+abbrev pub KarySolvable : Kary → List ℕ → Type 0
+KarySolvable And xs = Unit {0}
+KarySolvable Or xs = Unit {0}
+KarySolvable Nand xs = Unit {0}
+KarySolvable EnforceNand xs = NotAll xs
+
+abbrev pub ClaimSolvable : Claim → ℕ × ℕ × ℕ → Type 0
+ClaimSolvable Equal = EqualIf
+ClaimSolvable Unequal = UnequalIf
+
 abbrev pub Solvable : Command → List ℕ → Type 0
 Solvable (BitCommand m v) xs = Unit {0}
 Solvable (Clone a) xs = Unit {0}
 Solvable (Not a) xs = Unit {0}
 Solvable (Gated g a b) xs = Unit {0}
+Solvable (KaryCommand k r) xs = KarySolvable k (numbers_at xs r)
+Solvable (IsEqual a b) xs = Unit {0}
+Solvable (Select c a b) xs = Unit {0}
+Solvable (Enforce e a b c) xs = ClaimSolvable e (get_or xs a 0, get_or xs b 0, get_or xs c 0)
+Solvable (AtMost r e) xs = spelled (numbers_at xs r) ≤ element_of e
 
--- what its steps compute
+-- ---- what its steps compute
+abbrev pub kary_computed : Kary → List ℕ → List ℕ
+kary_computed And xs = joined_bit all xs ∷ []
+kary_computed Or xs = joined_bit some xs ∷ []
+kary_computed Nand xs = bit (not (all_of (truths xs))) ∷ []
+kary_computed EnforceNand xs = []
+
 abbrev pub computed : Command → List ℕ → List ℕ
 computed (BitCommand m v) xs = number (bit_number (value_of v)) ∷ []
 computed (Clone a) xs = get_or xs a 0 ∷ []
 computed (Not a) xs = flipped (get_or xs a 0) ∷ []
 computed (Gated g a b) xs = tabled g (get_or xs a 0, get_or xs b 0) ∷ []
+computed (KaryCommand k r) xs = kary_computed k (numbers_at xs r)
+computed (IsEqual a b) xs = equality (get_or xs a 0, get_or xs b 0) ∷ []
+computed (Select c a b) xs = picked (get_or xs c 0, get_or xs a 0, get_or xs b 0) ∷ []
+computed (Enforce e a b c) xs = []
+computed (AtMost r e) xs = []
 
--- ---- numbers that fit the answers
-all_bits : (bk : List Answer) (xs : List ℕ) → Along BoundedByKind bk xs → (a : ℕ) → get_or xs a 0 ≤ 1
-all_bits [] [] h a = omega arith
-all_bits [] (x ∷ xs) h a = absurd h
-all_bits (o ∷ bk) [] h a = absurd h
-all_bits (Bit b ∷ bk) (x ∷ xs) h zero = h.0
-all_bits (o ∷ bk) (x ∷ xs) h (suc a) = all_bits bk xs h.1 a
+picked_low : (x : ℕ × ℕ × ℕ) → Three x → picked x ≤ 1
+picked_low x h = go (truth x.0)
+  where
+    go : (b : Bool) → cond b x.1 x.2 ≤ 1
+    go true = h.1
+    go false = h.2
 
-bit_at_most : (b : Bool) → bit b ≤ 1
-bit_at_most true = omega arith
-bit_at_most false = omega arith
+below_64 : (e : ℕ) → element_of e < 2 ^ 64
+below_64 e = mod-lt e (lit< tt)
 
--- ---- the commands
 module _ (p : ℕ) (P : Prime p) (two : 2 < p) where
   abbrev pub Serves : Command → Type 0
-  Serves c = Served p (command_script p c) (fits c) (answers c) (Pre c) (Reading c) (Solvable c) (computed c)
+  Serves c = Served p (command_script p c) (fits c) (answers c) (Pre c) (Reading c) (Solvable c) (computed c) (bill p c)
+
+  -- ---- a new bit
+  new_owes : (n : Next) (m : AllocationMode) (o : Option Bool) → Owes p n (alloc_script p m o) shadow OldBit (new_due m o)
+  new_owes n as_constant None = record { charged = refl; ended = tt }
+  new_owes n as_constant (Some b) = record { charged = refl; ended = (record { inputs = omega arith; witnesses = omega arith; places = omega arith }, refl, tt) }
+  new_owes n as_input None = record { charged = λ i. takes_variable input false ∷ (takes_row (less_size p two (Input n.input_at) refl i + just_size p two 1 (Input n.input_at) (one_some p two) refl i + 0) ∷ []); ended = (record { inputs = omega arith; witnesses = omega arith; places = omega arith }, refl, omega arith) }
+  new_owes n as_input (Some b) = record { charged = λ i. takes_variable input true ∷ (takes_row (less_size p two (Input n.input_at) refl i + just_size p two 1 (Input n.input_at) (one_some p two) refl i + 0) ∷ []); ended = (record { inputs = omega arith; witnesses = omega arith; places = omega arith }, refl, omega arith) }
+  new_owes n as_witness None = record { charged = λ i. takes_variable witness false ∷ (takes_row (less_size p two (Witness n.witness_at) refl i + just_size p two 1 (Witness n.witness_at) (one_some p two) refl i + 0) ∷ []); ended = (record { inputs = omega arith; witnesses = omega arith; places = omega arith }, refl, omega arith) }
+  new_owes n as_witness (Some b) = record { charged = λ i. takes_variable witness true ∷ (takes_row (less_size p two (Witness n.witness_at) refl i + just_size p two 1 (Witness n.witness_at) (one_some p two) refl i + 0) ∷ []); ended = (record { inputs = omega arith; witnesses = omega arith; places = omega arith }, refl, omega arith) }
 
   bit_command : (m v : ℕ) → Serves (BitCommand m v)
-  bit_command m v = serve_bit p (λ bk. alloc_script p (mode_of m) (value_of v)) (fits (BitCommand m v)) (λ xs. Unit {0}) (OneReading (BitCommand m v)) (λ xs. Unit {0}) (λ xs. number (bit_number (value_of v))) record {
+  bit_command m v = serve_bit p numbers_of (λ bk. alloc_script p (mode_of m) (value_of v)) (λ bk. bk) (λ xs. xs) (λ xs. Unit {0}) (λ xs y. New (mode_of m) (value_of v) y) (λ xs. Unit {0}) (λ xs. number (bit_number (value_of v))) (λ bk. new_due (mode_of m) (value_of v)) (fits (BitCommand m v)) record {
     law = new_law p P numbers_of (mode_of m) (value_of v);
-    sees = λ bk h o t. new_sees p h o (mode_of m) (value_of v);
+    sees = λ bk h c t. new_sees p h c.one (mode_of m) (value_of v);
     tidy = λ bk. new_tidy p P.0 (mode_of m) (value_of v);
     steady = λ bk. new_steady p (mode_of m) (value_of v);
-    proper = λ n k bk o r q. new_real p n k (mode_of m) (value_of v) o q;
+    owes = λ m₁ bk r t. new_owes (names m₁) (mode_of m) (value_of v);
+    same = λ ρ bk. refl;
     pre = λ bk xs h. tt;
-  } (λ bk xs h r q. q.0)
+    low = λ x y h q. q.0;
+  }
 
-  not_command : (a : ℕ) → Serves (Not a)
-  not_command a = serve_bit p (λ bk. not_script p (bit_at bk a)) (fits (Not a)) (Pre (Not a)) (OneReading (Not a)) (λ xs. Unit {0}) (λ xs. flipped (get_or xs a 0)) record {
-    law = law_on p bit_number_of bit_number_of (not_script p) numbers_of (λ bk. bit_at bk a) (λ xs. get_or xs a 0) (λ ρ bk. bit_same ρ bk a) (λ x. x ≤ 1) (Is flipped) (λ x. Unit {0}) flipped
-        (function_law p bit_number_of bit_number_of (not_script p) (λ x. x ≤ 1) (Is flipped) flipped (λ x h. refl) (λ x y h r. r) (not_function p P));
-    sees = λ bk h o t. not_sees p h o (bit_at bk a) (there_bit_at h bk a t);
-    tidy = λ bk. not_tidy p (bit_at bk a);
-    steady = λ bk. not_steady p (bit_at bk a);
-    proper = λ n k bk o r q. not_real p n k (bit_at bk a) o q;
-    pre = λ bk xs h. all_bits bk xs h a;
-  } (λ bk xs h r q. subst (λ (x : ℕ). x ≤ 1) (sym q) (bit_at_most _))
-
-  gate_command : (g : Gate) (a b : ℕ) → Serves (Gated g a b)
-  gate_command g a b = serve_bit p (λ bk. gate_call g p (bit_at bk a, bit_at bk b)) (fits (Gated g a b)) (Pre (Gated g a b)) (OneReading (Gated g a b)) (λ xs. Unit {0}) (λ xs. tabled g (get_or xs a 0, get_or xs b 0)) record {
-    law = law_on p pair bit_number_of (gate_call g p) numbers_of (λ bk. (bit_at bk a, bit_at bk b)) (λ xs. (get_or xs a 0, get_or xs b 0)) (λ ρ bk i. (bit_same ρ bk a i, bit_same ρ bk b i)) Bits (Is (tabled g)) (λ x. Unit {0}) (tabled g)
-        (function_law p pair bit_number_of (gate_call g p) Bits (Is (tabled g)) (tabled g) (λ x h. refl) (λ x y h r. r) (gate_function g p P two));
-    sees = λ bk h o t. gate_sees g p h o (bit_at bk a) (bit_at bk b) (there_bit_at h bk a t) (there_bit_at h bk b t);
-    tidy = λ bk. gate_tidy g p P.0 (bit_at bk a) (bit_at bk b);
-    steady = λ bk. gate_steady g p (bit_at bk a) (bit_at bk b);
-    proper = λ n k bk o r q. gate_real g p n k (bit_at bk a) (bit_at bk b) o (real_bit_at bk a r) (real_bit_at bk b r) q;
-    pre = λ bk xs h. (all_bits bk xs h a, all_bits bk xs h b);
-  } (λ bk xs h r q. subst (λ (x : ℕ). x ≤ 1) (sym q) (bit_at_most _))
-
-  -- a clone asks for nothing, and is of its original's kind
+  -- ---- a clone asks for nothing, and is of its original's kind
   clone_command : (a : ℕ) → Serves (Clone a)
   clone_command a = record {
-    law = law_one_clone;
+    law = law_one p numbers_of number_of number_of (λ x. x) (λ ρ x. refl) (λ bk. answer (answer_at bk a)) (λ xs. Unit {0}) (λ xs y. y ≡ get_or xs a 0) (λ xs. Unit {0}) (λ xs. get_or xs a 0)
+        (function_law p numbers_of number_of (λ bk. answer (answer_at bk a)) (λ xs. Unit {0}) (λ xs y. y ≡ get_or xs a 0) (λ xs. get_or xs a 0) (λ xs h. refl) (λ xs y h r. r)
+        (function_pure p numbers_of number_of (λ bk. answer (answer_at bk a)) (λ xs. Unit {0}) (λ xs. get_or xs a 0) (λ bk. tt) (λ ρ low bk h. answer_same ρ bk a)));
     sees = λ bk h o t. (there_at h bk a t, tt);
     tidy = λ bk. tt;
     steady = λ bk. tt;
-    real = λ n k bk os r q. subst (Each Real) (first_of (answer_at bk a ∷ []) os n k q) (real_at bk a r, tt);
+    real = λ m k bk os r t q. subst (Each Real) (first_of (answer_at bk a ∷ []) os (names m) k q) (real_at bk a r, tt);
     kinds_are = λ n k bk os f q. ap kinds (sym (first_of (answer_at bk a ∷ []) os n k q))
         ∙ ap (λ x. x ∷ []) (sym (get_or-map kind_of bk a (Bit (Constant false)) a_number (there bk (true-ltb a (length (kinds bk)) (sym f)))));
     pre = λ bk xs h. tt;
     bounded = bounded;
+    billed = λ m bk r t. refl;
   }
     where
       there : (bk : List Answer) → a < length (kinds bk) → a < length bk
       there bk h = omega (arith, length-map bk kind_of)
 
-      law_one_clone : Law p numbers_of numbers_of (command_script p (Clone a)) (Pre (Clone a)) (Reading (Clone a)) (Solvable (Clone a)) (computed (Clone a))
-      law_one_clone = law_one p numbers_of number_of number_of (λ x. x) (λ ρ x. refl) (λ bk. answer (answer_at bk a)) (λ xs. Unit {0}) (OneReading (Clone a)) (λ xs. Unit {0}) (λ xs. get_or xs a 0)
-          (function_law p numbers_of number_of (λ bk. answer (answer_at bk a)) (λ xs. Unit {0}) (OneReading (Clone a)) (λ xs. get_or xs a 0) (λ xs h. refl) (λ xs y h r. r)
-          (function_pure p numbers_of number_of (λ bk. answer (answer_at bk a)) (λ xs. Unit {0}) (λ xs. get_or xs a 0) (λ bk. tt) (λ ρ low bk h. answer_same ρ bk a)))
-
       bounded : (bk os : List Answer) (old new : List ℕ) → Along BoundedByKind bk old → length new ≡ length os → Reading (Clone a) old new → Along BoundedByKind os new
       bounded bk os old [] h l q = absurd q
       bounded bk [] old (r ∷ []) h l q = absurd (omega arith)
-      bounded bk (Bit b ∷ []) old (r ∷ []) h l q = (subst (λ (x : ℕ). x ≤ 1) (sym q) (all_bits bk old h a), tt)
+      bounded bk (Bit b ∷ []) old (r ∷ []) h l q = (subst (λ (x : ℕ). x ≤ 1) (sym q) (low_at bk old h a), tt)
       bounded bk (o ∷ o₁ ∷ os) old (r ∷ []) h l q = absurd (omega arith)
       bounded bk os old (r ∷ s ∷ new) h l q = absurd q
+
+  -- ---- questions
+  not_command : (a : ℕ) → Serves (Not a)
+  not_command a = serve_bit p bit_number_of (not_script p) (λ bk. bit_at bk a) (λ xs. get_or xs a 0) (λ x. x ≤ 1) (Is flipped) (λ x. Unit {0}) flipped (λ bk. not_due (shadow (bit_at bk a))) (fits (Not a))
+      (asks_function p ThereBit (not_function p P) (not_orderly p P.0) (λ bk h t. there_bit_at h bk a t) (λ m bk r t. not_owes p two (names m) (bit_at bk a) (old_at m bk a r t)) (λ ρ bk. bit_same ρ bk a) (λ bk xs h. low_at bk xs h a) (λ x h. bit_low _))
+
+  gate_command : (g : Gate) (a b : ℕ) → Serves (Gated g a b)
+  gate_command g a b = serve_bit p pair (gate_call g p) (λ bk. (bit_at bk a, bit_at bk b)) (λ xs. (get_or xs a 0, get_or xs b 0)) Bits (Is (tabled g)) (λ x. Unit {0}) (tabled g) (λ bk. gate_due g (same_name (bit_at bk a) (bit_at bk b)) (shadow (bit_at bk a)) (shadow (bit_at bk b))) (fits (Gated g a b))
+      (asks_function p ThereTwo (gate_function g p P two) (gate_orderly p P.0 g) (λ bk h t. (there_bit_at h bk a t, there_bit_at h bk b t)) (λ m bk r t. gate_owes p two (names m) g (bit_at bk a) (bit_at bk b) (old_at m bk a r t) (old_at m bk b r t))
+      (λ ρ bk i. (bit_same ρ bk a i, bit_same ρ bk b i)) (λ bk xs h. (low_at bk xs h a, low_at bk xs h b)) (λ x h. bit_low _))
+
+  is_eq_command : (a b : ℕ) → Serves (IsEqual a b)
+  is_eq_command a b = serve_bit p pair (λ i. is_eq_script p i.0 i.1) (λ bk. (bit_at bk a, bit_at bk b)) (λ xs. (get_or xs a 0, get_or xs b 0)) Bits (Is equality) (λ x. Unit {0}) equality (λ bk. is_eq_due (same_name (bit_at bk a) (bit_at bk b)) (shadow (bit_at bk a)) (shadow (bit_at bk b))) (fits (IsEqual a b))
+      (asks_function p ThereTwo (is_eq_function p P two) (is_eq_orderly p P.0) (λ bk h t. (there_bit_at h bk a t, there_bit_at h bk b t)) (λ m bk r t. is_eq_owes p two (names m) (bit_at bk a) (bit_at bk b) (old_at m bk a r t) (old_at m bk b r t))
+      (λ ρ bk i. (bit_same ρ bk a i, bit_same ρ bk b i)) (λ bk xs h. (low_at bk xs h a, low_at bk xs h b)) (λ x h. bit_low _))
+
+  select_command : (c a b : ℕ) → Serves (Select c a b)
+  select_command c a b = serve_bit p triple (λ i. select_script p i.0 i.1 i.2) (λ bk. (bit_at bk c, bit_at bk a, bit_at bk b)) (λ xs. (get_or xs c 0, get_or xs a 0, get_or xs b 0)) Three (Is picked) (λ x. Unit {0}) picked (λ bk. select_due (same_name (bit_at bk a) (bit_at bk b)) (shadow (bit_at bk c)) (shadow (bit_at bk a)) (shadow (bit_at bk b))) (fits (Select c a b))
+      (asks_function p ThereThree (select_function p P two) (select_orderly p P.0) (λ bk h t. (there_bit_at h bk c t, there_bit_at h bk a t, there_bit_at h bk b t)) (λ m bk r t. select_owes p two (names m) (bit_at bk c) (bit_at bk a) (bit_at bk b) (old_at m bk c r t) (old_at m bk a r t) (old_at m bk b r t))
+      (λ ρ bk i. (bit_same ρ bk c i, bit_same ρ bk a i, bit_same ρ bk b i)) (λ bk xs h. (low_at bk xs h c, low_at bk xs h a, low_at bk xs h b)) picked_low)
+
+  -- ---- many bits
+  kary_command : (k : Kary) (r : Range) → Serves (KaryCommand k r)
+  kary_command And r = serve_bit p (lists bit_number_of) (kary_script all p) (λ bk. bits_at bk r) (λ xs. numbers_at xs r) AllBits (Is (joined_bit all)) (λ x. Unit {0}) (joined_bit all) (λ bk. kary_due all p (shadows (bits_at bk r))) (fits (KaryCommand And r))
+      (asks_function p ThereAll (kary_function p P two all) (kary_orderly p P.0 all) (λ bk h t. there_range h bk r t) (λ m bk e t. kary_owes p two all (bits_at bk r) (names m) (old_range m bk r e t)) (λ ρ bk. range_same ρ bk r) (λ bk xs h. low_range bk xs h r) (λ x h. bit_low _))
+  kary_command Or r = serve_bit p (lists bit_number_of) (kary_script some p) (λ bk. bits_at bk r) (λ xs. numbers_at xs r) AllBits (Is (joined_bit some)) (λ x. Unit {0}) (joined_bit some) (λ bk. kary_due some p (shadows (bits_at bk r))) (fits (KaryCommand Or r))
+      (asks_function p ThereAll (kary_function p P two some) (kary_orderly p P.0 some) (λ bk h t. there_range h bk r t) (λ m bk e t. kary_owes p two some (bits_at bk r) (names m) (old_range m bk r e t)) (λ ρ bk. range_same ρ bk r) (λ bk xs h. low_range bk xs h r) (λ x h. bit_low _))
+  kary_command Nand r = serve_bit p (lists bit_number_of) (nand_script p) (λ bk. bits_at bk r) (λ xs. numbers_at xs r) AllBits (Is (λ xs. bit (not (all_of (truths xs))))) (λ x. Unit {0}) (λ xs. bit (not (all_of (truths xs)))) (λ bk. nand_due p (shadows (bits_at bk r))) (fits (KaryCommand Nand r))
+      (asks_function p ThereAll (nand_function p P two) (nand_orderly p P.0) (λ bk h t. there_range h bk r t) (λ m bk e t. nand_owes p two (bits_at bk r) (names m) (old_range m bk r e t)) (λ ρ bk. range_same ρ bk r) (λ bk xs h. low_range bk xs h r) (λ x h. bit_low _))
+  kary_command EnforceNand r = serve_statement p (lists bit_number_of) (enforce_nand_script p) (λ bk. bits_at bk r) (λ xs. numbers_at xs r) AllBits NotAll (λ bk. enforce_nand_due p (shadows (bits_at bk r))) (fits (KaryCommand EnforceNand r))
+      (states_law p ThereAll (enforce_nand_law p P two) (enforce_nand_orderly p P.0) (λ bk h t. there_range h bk r t) (λ m bk e t. enforce_nand_owes p two (bits_at bk r) (names m) (old_range m bk r e t)) (λ ρ bk. range_same ρ bk r) (λ bk xs h. low_range bk xs h r))
+
+  -- ---- statements
+  claim_command : (e : Claim) (a b c : ℕ) → Serves (Enforce e a b c)
+  claim_command Equal a b c = serve_statement p triple (λ i. equal_script p i.0 i.1 i.2) (λ bk. (bit_at bk a, bit_at bk b, bit_at bk c)) (λ xs. (get_or xs a 0, get_or xs b 0, get_or xs c 0)) Three EqualIf (λ bk. equal_due (same_name (bit_at bk a) (bit_at bk b)) (shadow (bit_at bk a)) (shadow (bit_at bk b)) (shadow (bit_at bk c))) (fits (Enforce Equal a b c))
+      (states_law p ThereThree (equal_law p two) (equal_orderly p) (λ bk h t. (there_bit_at h bk a t, there_bit_at h bk b t, there_bit_at h bk c t)) (λ m bk r t. equal_owes p two (names m) (bit_at bk a) (bit_at bk b) (bit_at bk c) (old_at m bk a r t) (old_at m bk b r t) (old_at m bk c r t))
+      (λ ρ bk i. (bit_same ρ bk a i, bit_same ρ bk b i, bit_same ρ bk c i)) (λ bk xs h. (low_at bk xs h a, low_at bk xs h b, low_at bk xs h c)))
+  claim_command Unequal a b c = serve_statement p triple (λ i. unequal_script p i.0 i.1 i.2) (λ bk. (bit_at bk a, bit_at bk b, bit_at bk c)) (λ xs. (get_or xs a 0, get_or xs b 0, get_or xs c 0)) Three UnequalIf (λ bk. unequal_due (same_name (bit_at bk a) (bit_at bk b)) (shadow (bit_at bk a)) (shadow (bit_at bk b)) (shadow (bit_at bk c))) (fits (Enforce Unequal a b c))
+      (states_law p ThereThree (unequal_law p two) (unequal_orderly p) (λ bk h t. (there_bit_at h bk a t, there_bit_at h bk b t, there_bit_at h bk c t)) (λ m bk r t. unequal_owes p two (names m) (bit_at bk a) (bit_at bk b) (bit_at bk c) (old_at m bk a r t) (old_at m bk b r t) (old_at m bk c r t))
+      (λ ρ bk i. (bit_same ρ bk a i, bit_same ρ bk b i, bit_same ρ bk c i)) (λ bk xs h. (low_at bk xs h a, low_at bk xs h b, low_at bk xs h c)))
+
+  bound_command : (r : Range) (e : ℕ) → Serves (AtMost r e)
+  bound_command r e = serve_statement p (lists bit_number_of) (λ bs. walk_script p bs (element_of e)) (λ bk. bits_at bk r) (λ xs. numbers_at xs r) AllBits (λ xs. spelled xs ≤ element_of e) (λ bk. walk_due p (shadows (bits_at bk r)) (element_of e)) (fits (AtMost r e))
+      (states_law p ThereAll (walk_law p P two (element_of e) (below_64 e)) (walk_orderly p P.0 (element_of e)) (λ bk h t. there_range h bk r t) (λ m bk q t. walk_owes p two (bits_at bk r) (element_of e) (names m) (old_range m bk r q t)) (λ ρ bk. range_same ρ bk r) (λ bk xs h. low_range bk xs h r))
 
   pub served : (c : Command) → Serves c
   served (BitCommand m v) = bit_command m v
   served (Clone a) = clone_command a
   served (Not a) = not_command a
   served (Gated g a b) = gate_command g a b
+  served (KaryCommand k r) = kary_command k r
+  served (IsEqual a b) = is_eq_command a b
+  served (Select c a b) = select_command c a b
+  served (Enforce e a b c) = claim_command e a b c
+  served (AtMost r e) = bound_command r e
 
 -- ---- answers
 pub local : (h : There) (ρ σ : Val) → Agree h ρ σ → (o : Answer) → NamesThere h o → number_of σ o ≡ number_of ρ o

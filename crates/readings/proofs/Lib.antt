@@ -1,5 +1,4 @@
 pub mod OnBook
-pub mod Proper
+pub mod Operands
 pub mod CommandLaws
-pub mod Bills
 pub mod Step

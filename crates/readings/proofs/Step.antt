@@ -20,12 +20,12 @@ use Rattle.allocated.specs.Gates.{bit_number}
 use Rattle.boolean.specs.Booleans.{alloc_script}
 use Rattle.command.specs.declared.commands.Kind.{Kind}
 use Rattle.command.specs.declared.commands.Command.{Command}
-use Rattle.command.specs.declared.commands.Command.TheVariants.{Bit as BitCommand, Clone, Not, Gated}
+use Rattle.command.specs.declared.commands.Command.TheVariants.{Bit as BitCommand, Clone, Not, Gated, Kary as KaryCommand, IsEqual, Select, Enforce, AtMost}
 use Rattle.command.specs.declared.answers.Answer.{Answer}
 use Rattle.command.specs.declared.answers.Answer.TheVariants.{Bit}
 use Rattle.command.specs.declared.fault.TapeFault.{TapeFault}
-use Rattle.command.specs.declared.fault.TapeFault.TheVariants.{Gadget, Operand, BookFull}
-use Rattle.command.specs.Decide.{fits, answers, checked}
+use Rattle.command.specs.declared.fault.TapeFault.TheVariants.{Gadget, Operand, Length, BookFull}
+use Rattle.command.specs.Decide.{fits, measured, answers, checked}
 use Rattle.command.specs.Answers.{kind_of, kinds, mode_of, value_of, command_script}
 use Rattle.laws.specs.Law.{Val, Given}
 use Rattle.laws.specs.History.{accepted, Each, Kept}
@@ -42,7 +42,6 @@ use Rattle.readings.specs.Decision.{bill, by_bill, by_check, Real}
 use Rattle.readings.specs.State.{State, state, filed, performed, executed}
 use Rattle.readings.specs.Runs.{History, entries, decided, begins, accepts, refuses, GivenBy, Tells, Running, Promise, Stepped}
 use Rattle.readings.proofs.CommandLaws.{Pre, Solvable, computed, Serves, served, local, wider}
-use Rattle.readings.proofs.Bills.{billed_so}
 
 -- ---- the tape's numbers
 answered_is : {A : Type 0} (x y : A) (m n : Meaning) → ◌≡◌ {A = Result A GadgetFault × Meaning} (Ok x, m) (Ok y, n) → x ≡ y
@@ -89,23 +88,31 @@ given_by p (BitCommand mode v) bk os m n keeps ran = same (numbers_of (assigned 
 given_by p (Clone a) bk os m n keeps ran = tt
 given_by p (Not a) bk os m n keeps ran = tt
 given_by p (Gated g a b) bk os m n keeps ran = tt
+given_by p (KaryCommand k r) bk os m n keeps ran = tt
+given_by p (IsEqual a b) bk os m n keeps ran = tt
+given_by p (Select c a b) bk os m n keeps ran = tt
+given_by p (Enforce e a b c) bk os m n keeps ran = tt
+given_by p (AtMost r e) bk os m n keeps ran = tt
 
 -- ---- the check before any gadget
 pub record Passed (c : Command) (bk : List Answer) (places : ℕ) (ks : List Kind) : Type 0 where
   pub fit : fits c (kinds bk) ≡ true
+  pub long : measured c ≡ true
   pub are : ks ≡ answers c (kinds bk)
   pub room : length (kinds bk) + length (answers c (kinds bk)) ≤ places
 
 wrong : {A : Type 0} (f : TapeFault) (ks : List Kind) → ◌≡◌ {A = Result (List Kind) TapeFault} (Err f) (Ok ks) → A
 wrong f ks e = let z : ◌≡◌ {A = ℕ} 0 1 = cc e in absurd (omega arith)
 
-passed : (c : Command) (bk : List Answer) (places : ℕ) (ks : List Kind) → checked c (kinds bk) places ≡ Ok ks → Passed c bk places ks
-passed c bk places ks e = go (fits c (kinds bk)) (leb (length (kinds bk) + length (answers c (kinds bk))) places) refl refl e
+pub passed : (c : Command) (bk : List Answer) (places : ℕ) (ks : List Kind) → checked c (kinds bk) places ≡ Ok ks → Passed c bk places ks
+passed c bk places ks e = go (fits c (kinds bk)) (measured c) (leb (length (kinds bk) + length (answers c (kinds bk))) places) refl refl refl e
   where
-    go : (b d : Bool) → fits c (kinds bk) ≡ b → leb (length (kinds bk) + length (answers c (kinds bk))) places ≡ d → cond {A = Result (List Kind) TapeFault} b (cond d (Ok (answers c (kinds bk))) (Err BookFull)) (Err Operand) ≡ Ok ks → Passed c bk places ks
-    go true true h l q = record { fit = h; are = cc q; room = leb-true _ _ l }
-    go true false h l q = wrong BookFull ks q
-    go false d h l q = wrong Operand ks q
+    go : (b l d : Bool) → fits c (kinds bk) ≡ b → measured c ≡ l → leb (length (kinds bk) + length (answers c (kinds bk))) places ≡ d
+        → cond {A = Result (List Kind) TapeFault} b (cond l (cond d (Ok (answers c (kinds bk))) (Err BookFull)) (Err Length)) (Err Operand) ≡ Ok ks → Passed c bk places ks
+    go true true true h m l q = record { fit = h; long = m; are = cc q; room = leb-true _ _ l }
+    go true true false h m l q = wrong BookFull ks q
+    go true false d h m l q = wrong Length ks q
+    go false m d h g l q = wrong Operand ks q
 
 each_append : {A : Type 0} (P : A → Type 0) (xs ys : List A) → Each P xs → Each P ys → Each P (xs ++ ys)
 each_append P [] ys h k = k
@@ -131,14 +138,14 @@ module _ (p : ℕ) (P : Prime p) (two : 2 < p) where
   barred : (h : History) (s : State) (c : Command) (ks : List Kind) (e : GadgetFault) (l : Meaning) → Running p h s → checked c (kinds s.book) s.places ≡ Ok ks → run p (command_script p c s.book) s.system ≡ (Err e, l) → decided p c s ≡ Err (Gadget e)
   barred h s c ks e l k q ran =
       ap (by_check p c s.system s.book) q
-      ∙ ap (by_bill ks) (ap (λ b. settled b s.system) (sym (billed_so p two s.system c s.book k.real k.kept.book))
-      ∙ settles_err p (command_script p c s.book) s.system l e (λ t os. Each (NamesThere t) os) ((served p P two c).sees s.book (has s.system) refl k.kept.book) ((served p P two c).steady s.book) ran)
+      ∙ ap (by_bill ks) (ap (λ b. settled b s.system) (sym ((served p P two c).billed s.system s.book k.real k.kept.book))
+      ∙ settles_err p (command_script p c s.book) s.system l e (λ t os. Each (NamesThere t) os) ((served p P two c).sees s.book (has s.system) (record { one = refl; zero = refl }) k.kept.book) ((served p P two c).steady s.book) ran)
 
   -- and of one that is accepted
   cleared : (h : History) (s : State) (c : Command) (os : List Answer) (n : Meaning) → Running p h s → run p (command_script p c s.book) s.system ≡ (Ok os, n) → settled (bill p c s.book) s.system ≡ Ok (account n)
   cleared h s c os n k ran =
-      ap (λ b. settled b s.system) (sym (billed_so p two s.system c s.book k.real k.kept.book))
-      ∙ settles_ok p (command_script p c s.book) s.system n os (λ t os. Each (NamesThere t) os) ((served p P two c).sees s.book (has s.system) refl k.kept.book) ((served p P two c).steady s.book) ran
+      ap (λ b. settled b s.system) (sym ((served p P two c).billed s.system s.book k.real k.kept.book))
+      ∙ settles_ok p (command_script p c s.book) s.system n os (λ t os. Each (NamesThere t) os) ((served p P two c).sees s.book (has s.system) (record { one = refl; zero = refl }) k.kept.book) ((served p P two c).steady s.book) ran
 
   pub running_refused : (h : History) (s : State) (c : Command) (f : TapeFault) → Running p h s → decided p c s ≡ Err f → Running p ((c, Err f) ∷ h) s
   running_refused h s c f k e = record {
@@ -154,8 +161,8 @@ module _ (p : ℕ) (P : Prime p) (two : 2 < p) where
         (record { system = grows; paid = cleared h s c os n k ran; answers = os; book = refl; kinds_are = same_kinds; places_are = refl });
     kept = subst (λ (j : ℕ). Kept p number_of NamesThere BoundedByKind Reading (accepted c j ∷ entries h) n (bk ++ os)) many
         (step_accepted p P.0 number_of NamesThere BoundedByKind Reading local wider (command_script p) Pre Solvable computed (λ d. (served p P two d).law)
-        (λ d b h k t. sees_names h (command_script p d b) (λ k os. Each (NamesThere k) os) ((served p P two d).sees b h k.one t)) (λ d b. (served p P two d).tidy b) (λ d b o m n r. (served p P two d).bounded b o) (λ d g b o m n r xs a y. (served p P two d).pre b xs a) c (entries h) m n bk os k.kept ran);
-    real = each_append Real bk os k.real (of_c.real (names m) (names n) bk os k.real ended);
+        (λ d b h k t. sees_names h (command_script p d b) (λ k os. Each (NamesThere k) os) ((served p P two d).sees b h k t)) (λ d b. (served p P two d).tidy b) (λ d b o m n r. (served p P two d).bounded b o) (λ d g b o m n r xs a y. (served p P two d).pre b xs a) c (entries h) m n bk os k.kept ran);
+    real = each_append Real bk os k.real (of_c.real m (names n) bk os k.real k.kept.book ended);
     told = λ keeps. (
       numbers_of (assigned n) bk,
       numbers_of (assigned n) os,

@@ -5,7 +5,7 @@ use Rattle.relations.specs.Script.{over}
 use Rattle.allocated.specs.Gates.{bit_number}
 use Rattle.command.specs.declared.commands.Kind.{Kind}
 use Rattle.command.specs.declared.commands.Command.{Command}
-use Rattle.command.specs.declared.commands.Command.TheVariants.{Bit as BitCommand, Clone, Not, Gated}
+use Rattle.command.specs.declared.commands.Command.TheVariants.{Bit as BitCommand, Clone, Not, Gated, Kary as KaryCommand, IsEqual, Select, Enforce, AtMost}
 use Rattle.command.specs.declared.answers.Answer.{Answer}
 use Rattle.command.specs.declared.fault.TapeFault.{TapeFault}
 use Rattle.command.specs.Answers.{kinds, value_of}
@@ -60,6 +60,11 @@ GivenBy (BitCommand m v) (r ∷ rs) = Given (bit_number (value_of v)) r
 GivenBy (Clone a) rs = Unit {0}
 GivenBy (Not a) rs = Unit {0}
 GivenBy (Gated g a b) rs = Unit {0}
+GivenBy (KaryCommand k r) rs = Unit {0}
+GivenBy (IsEqual a b) rs = Unit {0}
+GivenBy (Select c a b) rs = Unit {0}
+GivenBy (Enforce e a b c) rs = Unit {0}
+GivenBy (AtMost r e) rs = Unit {0}
 
 abbrev pub Tells : History → List ℕ → Type 0
 Tells [] xs = Unit {0}
