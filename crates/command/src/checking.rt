@@ -4,8 +4,8 @@ ghost use Rattle.command.specs.declared.commands.Kind.{Kind as Sort};
 ghost use Rattle.command.specs.Decide.{kind_at, is_bit, range_is_bits, short, fits, measured, answers, checked};
 
 use crate::commands::{Command, Kary, Kind, Range};
-use gates::bit_length;
 use crate::fault::TapeFault;
+use gates::bit_length;
 
 /// A book by the kinds of its answers.
 pub trait Kinds {
@@ -56,7 +56,8 @@ fn is_fit<B: Kinds>(command: Command, book: &B) -> bool
         Command::Bit(mode, value) => mode <= 2 && value <= 2,
         Command::Clone(a) => book.kind(a).is_some(),
         Command::Not(a) => names_bit(book, a),
-        Command::Gated(_, a, b) | Command::IsEqual(a, b) => names_bit(book, a) && names_bit(book, b),
+        Command::Gated(_, a, b) | Command::IsEqual(a, b) => names_bit(book, a)
+            && names_bit(book, b),
         Command::Kary(_, range) | Command::AtMost(range, _) => name_bits(book, range),
         Command::Select(a, b, c) | Command::Enforce(_, a, b, c) => {
             names_bit(book, a) && names_bit(book, b) && names_bit(book, c)
@@ -70,7 +71,8 @@ fn is_measured(command: Command) -> bool
 {
     match command {
         Command::Kary(_, range) => range.count >= 1 && is_short(range),
-        Command::AtMost(range, element) => bit_length(element) <= range.count as u32 && is_short(range),
+        Command::AtMost(range, element) => bit_length(element) <= range.count as u32
+            && is_short(range),
         _ => true,
     }
 }
@@ -80,7 +82,9 @@ fn answer_count(command: Command) -> usize
     ensures { (ks : List Sort) → result ≡ length (answers command ks) }
 {
     match command {
-        Command::Kary(Kary::EnforceNand, _) | Command::Enforce(_, _, _, _) | Command::AtMost(_, _) => 0,
+        Command::Kary(Kary::EnforceNand, _)
+        | Command::Enforce(_, _, _, _)
+        | Command::AtMost(_, _) => 0,
         _ => 1,
     }
 }

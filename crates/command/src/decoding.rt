@@ -51,10 +51,27 @@ pub fn decode(tape: &[u8]) -> Option<Decoded>
         [0x16, low, high, k, ..] => Command::Kary(Kary::Nand, range(low, high, k)),
         [0x17, low, high, k, ..] => Command::Kary(Kary::EnforceNand, range(low, high, k)),
         [0x18, a, b, c, d, ..] => Command::IsEqual(operand(a, b), operand(c, d)),
-        [0x19, a, b, c, d, e, f, ..] => Command::Select(operand(a, b), operand(c, d), operand(e, f)),
-        [0x1A, a, b, c, d, e, f, ..] => Command::Enforce(Claim::Equal, operand(a, b), operand(c, d), operand(e, f)),
-        [0x1B, a, b, c, d, e, f, ..] => Command::Enforce(Claim::Unequal, operand(a, b), operand(c, d), operand(e, f)),
-        [0x34, low, high, k, a, b, c, d, e, f, g, h, ..] => Command::AtMost(range(low, high, k), u64::from_le_bytes([a, b, c, d, e, f, g, h])),
+        [0x19, a, b, c, d, e, f, ..] => Command::Select(
+            operand(a, b),
+            operand(c, d),
+            operand(e, f),
+        ),
+        [0x1A, a, b, c, d, e, f, ..] => Command::Enforce(
+            Claim::Equal,
+            operand(a, b),
+            operand(c, d),
+            operand(e, f),
+        ),
+        [0x1B, a, b, c, d, e, f, ..] => Command::Enforce(
+            Claim::Unequal,
+            operand(a, b),
+            operand(c, d),
+            operand(e, f),
+        ),
+        [0x34, low, high, k, a, b, c, d, e, f, g, h, ..] => Command::AtMost(
+            range(low, high, k),
+            u64::from_le_bytes([a, b, c, d, e, f, g, h]),
+        ),
         _ => return None,
     };
     Some(Decoded { command, length })

@@ -1,3 +1,4 @@
 pub mod Executes
 pub mod Primes
 pub mod Tapes
+pub mod Gathered

@@ -1,5 +1,8 @@
 -- A tape's commands one after another.
-use Rattle.std.proofs.Common.{◌≡◌, ℕ, ◌+◌, ◌-◌, ◌<◌, ◌≤◌, Bool, true, false, cond, ◌&&◌, ltb, List, [], ◌∷◌, ◌++◌, length, take, drop, Some, None, Ok, Err, Option, Result, sym, refl, ap, ◌∙◌, subst, append_assoc, append-nil, arith, length-drop, le-ltb, lt-ltb}
+use Rattle.command.specs.Tape.{bytes, spelled, decoded}
+use Rattle.command.specs.declared.commands.Decoded.{Decoded}
+use Rattle.readings.proofs.OnBook.{none_some}
+use Rattle.std.proofs.Common.{◌≡◌, ℕ, ◌+◌, ◌-◌, ◌<◌, ◌≤◌, Bool, true, false, cond, ◌&&◌, ltb, List, [], ◌∷◌, ◌++◌, length, take, drop, Some, None, Ok, Err, Option, Result, sym, refl, ap, ◌∙◌, subst, append_assoc, append-nil, arith, length-drop, le-ltb, lt-ltb, eqb, leb, get_or, leb-true}
 use Rattle.std.proofs.lemmas.List.{take_all, drop-drop}
 use Rattle.relations.specs.Script.{over}
 use Rattle.command.specs.declared.commands.Kind.{Kind}
@@ -20,6 +23,26 @@ err_decided (Err g) f e = ap Err (cc e)
 pub noted : (n : ℕ) (d : Result (List Kind) TapeFault) (f : TapeFault) (r : Refused) (before middle after : List Refused) → ◌≡◌ {A = Result (Unit {0}) TapeFault} (Err f) (over (λ ks. tt) d) → r.command ≡ n → r.refusal ≡ of_tape f → middle ≡ before → after ≡ middle ++ (r ∷ []) → after ≡ before ++ outcome_line n d
 noted n d f r before middle after e c q b a =
     a ∙ (λ i. b i ++ (record { command = c i; refusal = q i } ∷ [])) ∙ ap (λ x. before ++ outcome_line n x) (sym (err_decided d f e))
+
+-- an accepted command leaves no line
+pub unnoted : (n : ℕ) (d : Result (List Kind) TapeFault) (before middle : List Refused) → ◌≡◌ {A = Result (Unit {0}) TapeFault} (Ok tt) (over (λ ks. tt) d) → middle ≡ before → middle ≡ before ++ outcome_line n d
+unnoted n (Ok ks) before middle e b = b ∙ sym (append-nil before)
+unnoted n (Err f) before middle e b = none_ok e
+  where
+    none_ok : {A : Type 0} → ◌≡◌ {A = Result (Unit {0}) TapeFault} (Ok tt) (Err f) → A
+    none_ok q = cc q
+
+-- a command that is decoded is there with all its bytes
+pub decoded_there : (bs : List ℕ) (d : Decoded) → decoded bs ≡ Some d → d.length ≤ length bs
+decoded_there bs d e = go (eqb (bytes (get_or bs 0 0)) 0) (leb (bytes (get_or bs 0 0)) (length bs)) refl e
+  where
+    made : Decoded
+    made = record { command = spelled (get_or bs 0 0) bs; length = bytes (get_or bs 0 0) }
+
+    go : (a b : Bool) → leb (bytes (get_or bs 0 0)) (length bs) ≡ b → cond {A = Option Decoded} a None (cond b (Some made) None) ≡ Some d → d.length ≤ length bs
+    go true b l q = none_some q
+    go false true l q = let same : made ≡ d = cc q in subst (λ (x : Decoded). x.length ≤ length bs) same (leb-true _ _ l)
+    go false false l q = none_some q
 
 lines_more : (e : Result (List Kind) TapeFault) (c : _) (h : History) → lines ((c, e) ∷ h) ≡ lines h ++ outcome_line (length h) e
 lines_more (Ok ks) c h = sym (append-nil (lines h))

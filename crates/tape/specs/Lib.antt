@@ -1,3 +1,4 @@
 pub mod Book
 pub mod State
 pub mod Tape
+pub mod Action

@@ -1,7 +1,7 @@
 ghost use Rattle.std.specs.Prelude.{◌≤◌, length};
 
 use boolean::Boolean;
-use command::{Answer, Kind, Kinds, TapeFault};
+use command::{Answer, Kind, Kinds, Range, TapeFault};
 
 /// The answers so far, in the order in which they came, over a lent slice: as many places as it has, and at most 4,096.
 // A slice and the count of its used places, and not a vector: the places of a book are lent by the caller of a run, and a book never allocates.
@@ -16,9 +16,10 @@ pub struct Book<'a> {
 pub const MOST: usize = 4096;
 
 impl<'a> Book<'a> {
-    ghost use Rattle.std.specs.Prelude.{◌≡◌, ◌+◌, min, [], ◌++◌, length, if◌then◌else◌, nat_le};
+    ghost use Rattle.std.specs.Prelude.{◌≡◌, ◌+◌, true, min, [], ◌++◌, length, take, if◌then◌else◌, nat_le};
     ghost use Rattle.std.specs.Result.{is_ok};
-    ghost use Rattle.command.specs.Answers.{answer_at, bit_at};
+    ghost use Rattle.command.specs.Decide.{short};
+    ghost use Rattle.command.specs.Answers.{answer_at, bit_at, bits_at};
     ghost use Rattle.tape.specs.Book.{held_by, places_of};
 
     /// An empty book over a lent slice.
@@ -64,6 +65,19 @@ impl<'a> Book<'a> {
     {
         let Answer::Bit(bit) = self.get(a);
         bit
+    }
+
+    /// The bits of a range of at most 64 answers; what stands behind them is not said.
+    pub(crate) fn bits(&self, range: Range) -> [Boolean; 64]
+        requires { short range ≡ true }
+        ensures { take range.count result ≡ bits_at (held_by self.now) range }
+    {
+        let mut bits = [Boolean::Constant(false); 64];
+        let first: u32 = range.first.into();
+        for i in 0..range.count {
+            bits[i as usize] = self.bit(first + i as u32);
+        }
+        bits
     }
 
     /// More answers, refused where there are not places for all of them; a book that refuses stays as it is.

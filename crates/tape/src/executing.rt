@@ -1,18 +1,21 @@
-ghost use Rattle.std.specs.Prelude.{◌≡◌, [], ◌∷◌};
+ghost use Rattle.std.specs.Prelude.{◌≡◌, true};
 ghost use Rattle.relations.specs.Meaning.{Ran, Adds, Leaves};
 ghost use Rattle.relations.specs.Script.{run, whole, over};
-ghost use Rattle.command.specs.Answers.{action as action_of, action_script};
 ghost use Rattle.command.specs.Listed.{listed};
+ghost use Rattle.tape.specs.Action.{action as action_of, short_enough, action_script};
 ghost use Rattle.tape.specs.Book.{held_by};
 ghost use Rattle.readings.specs.State.{executed};
 ghost use Rattle.readings.specs.Runs.{History, Running, Stepped, Unchanged};
 ghost use Rattle.tape.specs.State.{state_of};
 
+use crate::action::Action;
+use crate::answering::{kary, no_answer, one_bit};
 use crate::book::Book;
 use crate::circuit::Circuit;
-use boolean::{Boolean, BooleanCall};
-use command::{Action, Answer, Answers, Command, TapeFault, check, mode_of, value_of};
+use boolean::{BooleanCall, BooleanStatement};
+use command::{Answers, Claim, Command, TapeFault, check, mode_of, value_of};
 use field::Field;
+use gates::KaryStatement;
 use relations::{GadgetFault, System, call};
 
 // Matches, here and in `perform`, and no table of functions: what a command asks for is data, as its definition is.
@@ -21,36 +24,59 @@ fn resolve(command: Command, book: &Book) -> Action
     ensures { result ≡ action_of command (held_by book.now) }
 {
     match command {
-        Command::Bit(mode, value) => Action::Bits(BooleanCall::Allocate(
-            mode_of(mode),
-            value_of(value),
-        )),
+        Command::Bit(mode, value) => {
+            Action::Bits(BooleanCall::Allocate(mode_of(mode), value_of(value)))
+        }
         Command::Clone(a) => Action::Alias(book.get(a)),
         Command::Not(a) => Action::Bits(BooleanCall::Not(book.bit(a))),
-        Command::Gated(gate, a, b) => Action::Bits(BooleanCall::Gated(
-            gate,
+        Command::Gated(gate, a, b) => {
+            Action::Bits(BooleanCall::Gated(gate, book.bit(a), book.bit(b)))
+        }
+        Command::Kary(kary, range) => Action::Kary(kary, range),
+        Command::IsEqual(a, b) => Action::Bits(BooleanCall::Equality(book.bit(a), book.bit(b))),
+        Command::Select(c, a, b) => {
+            Action::Bits(BooleanCall::Choice(book.bit(c), book.bit(a), book.bit(b)))
+        }
+        Command::Enforce(Claim::Equal, a, b, c) => Action::Claim(BooleanStatement::Equal(
             book.bit(a),
             book.bit(b),
+            book.bit(c),
         )),
+        Command::Enforce(Claim::Unequal, a, b, c) => Action::Claim(BooleanStatement::Unequal(
+            book.bit(a),
+            book.bit(b),
+            book.bit(c),
+        )),
+        Command::AtMost(range, element) => Action::AtMost(range, element),
     }
 }
 
-/// A bit as the one answer of a command.
-fn one_bit(bit: Result<Boolean, GadgetFault>) -> Result<Answers, GadgetFault>
-    ensures { over listed result ≡ over (λ b. Answer.Bit b ∷ []) bit }
-{
-    Ok(Answers::one(Answer::Bit(bit?)))
-}
-
 /// The gadget's call that a command asks for.
-fn perform<F: Field, S: System<F>>(cs: &mut S, action: Action) -> Result<Answers, GadgetFault>
-    ensures does { Ran (whole (run F.Field.modulus (action_script F.Field.modulus action))) (S.System.meaning cs.old) (over listed result) (S.System.meaning cs.new) }
+fn perform<F: Field, S: System<F>>(
+    cs: &mut S,
+    action: Action,
+    book: &Book,
+) -> Result<Answers, GadgetFault>
+    requires { short_enough action ≡ true }
+    ensures does { Ran (whole (run F.Field.modulus (action_script F.Field.modulus action (held_by book.now)))) (S.System.meaning cs.old) (over listed result) (S.System.meaning cs.new) }
     ensures adds { Adds S.System.meaning S.System.stored S.System.knows cs.old cs.new }
     ensures leaves { Leaves result (S.System.stored cs.old) (S.System.stored cs.new) }
 {
     match action {
         Action::Alias(answer) => Ok(Answers::one(answer)),
         Action::Bits(gadget) => one_bit(call(&gadget, cs)),
+        Action::Claim(statement) => no_answer(call(&statement, cs)),
+        Action::Kary(question, range) => {
+            let bits = book.bits(range);
+            kary(question, &bits[..range.count as usize], cs)
+        }
+        Action::AtMost(range, element) => {
+            let bits = book.bits(range);
+            no_answer(call(
+                &KaryStatement::AtMost(&bits[..range.count as usize], element),
+                cs,
+            ))
+        }
     }
 }
 
@@ -69,7 +95,7 @@ pub fn execute<F: Field, S: System<F>>(
     let places = circuit.book.places();
     check(command, &circuit.book, places)?;
     let action = resolve(command, &circuit.book);
-    let answers = perform(&mut circuit.system, action)?;
+    let answers = perform(&mut circuit.system, action, &circuit.book)?;
     // No refusal comes from here: the check has found places for all answers.
     circuit.book.extend(answers.as_slice())
 }

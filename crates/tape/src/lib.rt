@@ -1,5 +1,7 @@
 #![tactic(auto)]
 
+mod action;
+mod answering;
 mod book;
 mod circuit;
 mod executing;

@@ -1,9 +1,13 @@
 use Rattle.std.proofs.Common.{◌∷◌, [], sym, ap, ◌∙◌}
 use Rattle.relations.specs.Script.{run, whole}
 use Rattle.relations.proofs.Then.{whole_over}
-use Rattle.boolean.specs.Booleans.{call_script}
+use Rattle.boolean.specs.Booleans.{call_script, statement_script}
+use Rattle.gates.specs.Walk.{walk_script}
 use Rattle.command.specs.declared.answers.Answer.TheVariants.{Bit}
-use Rattle.command.specs.Answers.{action_script}
+use Rattle.command.specs.Answers.{kary_steps, bits_at}
+use Rattle.tape.specs.declared.action.Action.{Action}
+use Rattle.tape.specs.Action.{action_script}
+use Rattle.tape.specs.Book.{held_by}
 use Rattle.tape.proofs.executing.perform.Goals as goal
 
 pub returns-in-Bits-clause-does : goal.returns-in-Bits-clause-does
@@ -11,4 +15,27 @@ returns-in-Bits-clause-does g c =
     let p = g.F.Field.modulus in
     let m = g.S.System.meaning c.args.cs.now in
     let n = g.S.System.meaning c.call.new.cs in
-    ap (λ a. whole (run p (action_script p a)) m) c.in-Bits.is ∙ whole_over p (call_script p c.in-Bits.gadget) (λ b. Bit b ∷ []) m n c.call.result c.call.ensures.does ∙ ap (λ r. (r, n)) (sym c.one_bit.ensures)
+    ap (λ (a : Action). whole (run p (action_script p a (held_by c.args.book.now))) m) c.in-Bits.is ∙ whole_over p (call_script p c.in-Bits.gadget) (λ b. Bit b ∷ []) m n c.call.result c.call.ensures.does ∙ ap (λ r. (r, n)) (sym c.one_bit.ensures)
+
+pub returns-in-Claim-clause-does : goal.returns-in-Claim-clause-does
+returns-in-Claim-clause-does g c =
+    let p = g.F.Field.modulus in
+    let m = g.S.System.meaning c.args.cs.now in
+    let n = g.S.System.meaning c.call-in-Claim.new.cs in
+    ap (λ (a : Action). whole (run p (action_script p a (held_by c.args.book.now))) m) c.in-Claim.is ∙ whole_over p (statement_script p c.in-Claim.statement) (λ u. []) m n c.call-in-Claim.result c.call-in-Claim.ensures.does ∙ ap (λ r. (r, n)) (sym c.no_answer.ensures)
+
+pub returns-in-Kary-clause-does : goal.returns-in-Kary-clause-does
+returns-in-Kary-clause-does g c =
+    let p = g.F.Field.modulus in
+    let m = g.S.System.meaning c.args.cs.now in
+    ap (λ (a : Action). whole (run p (action_script p a (held_by c.args.book.now))) m) c.in-Kary.is ∙ ap (λ bs. whole (run p (kary_steps c.in-Kary.question p bs)) m) (sym c.bits-bits.ensures) ∙ c.kary.ensures.does
+
+pub returns-in-AtMost-clause-does : goal.returns-in-AtMost-clause-does
+returns-in-AtMost-clause-does g c =
+    let p = g.F.Field.modulus in
+    let m = g.S.System.meaning c.args.cs.now in
+    let n = g.S.System.meaning c.call-in-AtMost.new.cs in
+    let e = c.in-AtMost.element in
+    ap (λ (a : Action). whole (run p (action_script p a (held_by c.args.book.now))) m) c.in-AtMost.is
+    ∙ whole_over p (walk_script p (bits_at (held_by c.args.book.now) c.in-AtMost.range) e) (λ u. []) m n c.call-in-AtMost.result (ap (λ bs. whole (run p (walk_script p bs e)) m) (sym c.bits-bits-in-AtMost.ensures) ∙ c.call-in-AtMost.ensures.does)
+    ∙ ap (λ r. (r, n)) (sym c.no_answer-in-AtMost.ensures)

@@ -3,7 +3,7 @@ use Rattle.command.specs.declared.fault.TapeFault.{TapeFault}
 use Rattle.readings.specs.State.{State}
 use Rattle.readings.specs.Runs.{decided}
 use Rattle.tape.specs.State.{state_of}
-use Rattle.tape.proofs.Tapes.{noted}
+use Rattle.tape.proofs.Tapes.{noted, unnoted}
 use Rattle.tape.proofs.running.next_command.Goals as goal
 
 pub returns-in-Err : goal.returns-in-Err
@@ -24,3 +24,18 @@ returns-in-Err g c =
         ap (λ (z : Result (Unit {0}) TapeFault × State). z.1) (sym c.in-Err.ensures.does),
       );
     }
+
+pub returns-in_default-execute-clause-does : goal.returns-in_default-execute-clause-does
+returns-in_default-execute-clause-does g c =
+    let s = state_of g.S.System.meaning c.args.circuit.now in
+    let d = c.in-Some.next in (
+      d,
+      sym c.in-Some.ensures,
+      refl,
+      λ h k.
+          let st = c.in_default-execute.ensures.runs h k in (
+            st.running,
+            unnoted c.args.number (decided g.F.Field.modulus d.command s) (vec_items c.args.refused.now) (vec_items c.reserve.new.self) st.outcome c.reserve.ensures.items,
+          ),
+      ap (λ (z : Result (Unit {0}) TapeFault × State). z.1) (sym c.in_default-execute.ensures.does),
+    )

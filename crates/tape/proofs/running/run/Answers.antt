@@ -1,4 +1,4 @@
-use Rattle.std.proofs.Common.{◌≡◌, ℕ, ◌+◌, ◌<◌, ◌≤◌, [], length, drop, Some, None, Ok, vec_items, Result, sym, refl, ap, subst, arith, length-drop, rules}
+use Rattle.std.proofs.Common.{◌≡◌, ℕ, ◌+◌, ◌<◌, ◌≤◌, [], length, drop, Some, None, Ok, Option, vec_items, Result, sym, refl, ap, subst, arith, length-drop, rules}
 use Rattle.std.proofs.lemmas.Result.{err_from_is_err_and}
 use Rattle.std.specs.declared.alloc.AllocError.{AllocError}
 use Rattle.relations.proofs.Added.{adds_nothing, adds_both}
@@ -7,7 +7,7 @@ use Rattle.readings.proofs.Step.{running_begins, promised}
 use Rattle.tape.specs.State.{state_of}
 use Rattle.tape.specs.Tape.{Next, Taped}
 use Rattle.tape.proofs.Primes.{above_two}
-use Rattle.tape.proofs.Tapes.{left_is, known_next, begun, gone_on, unknown_end, tape_end, limit_end, memory_end}
+use Rattle.tape.proofs.Tapes.{decoded_there, left_is, known_next, begun, gone_on, unknown_end, tape_end, limit_end, memory_end}
 use Rattle.tape.proofs.running.run.Goals as goal
 
 pub loop-number-init : goal.loop-number-init
@@ -81,3 +81,12 @@ returns g c =
     let full : c.loop-number.number ≡ c.args.most = omega arith in
     let ends = λ (h : History) (k : Running p h s). subst (λ (r : ℕ). Taped {E = AllocError} p c.args.most c.args.tape.now h s (state_of g.S.System.meaning c.loop-number.circuit) (Ok r) (vec_items c.args.refused.now) (vec_items c.loop-number.refused)) full (limit_end {E = AllocError} p c.args.most c.args.tape.now (promised p l.prime two) h s (state_of g.S.System.meaning c.loop-number.circuit) v.0 c.loop-number.number (vec_items c.args.refused.now) (vec_items c.loop-number.refused) c.loop-number.auto.number-end c.loop-number-test.false (v.3 h k)) in
     record { adds = v.2; runs = ends; fresh = λ f e. ends [] (running_begins p l.prime two s f e) }
+
+pub slice_bounds-rest-count : goal.slice_bounds-rest-count
+slice_bounds-rest-count g c =
+    let step : Next {E = AllocError} g.F.Field.modulus c.loop-number.rest.now c.loop-number.number (state_of g.S.System.meaning c.loop-number.circuit) (state_of g.S.System.meaning c.next_command.new.circuit) (Ok (Some c.in-Some.length)) (vec_items c.loop-number.refused) (vec_items c.next_command.new.refused) =
+    subst (λ (x : Option ℕ). Next {E = AllocError} g.F.Field.modulus c.loop-number.rest.now c.loop-number.number (state_of g.S.System.meaning c.loop-number.circuit) (state_of g.S.System.meaning c.next_command.new.circuit) (Ok x) (vec_items c.loop-number.refused) (vec_items c.next_command.new.refused)) c.in-Some.is c.in_ok-length.ensures.does in
+    omega (arith, decoded_there c.loop-number.rest.now step.0 step.1, step.2)
+
+pub slice_bounds-rest-start : goal.slice_bounds-rest-start
+slice_bounds-rest-start g c = slice_bounds-rest-count g c

@@ -1,0 +1,14 @@
+use boolean::{BooleanCall, BooleanStatement};
+use command::{Answer, Kary, Range};
+
+// An enum, and not a closure, as `BooleanCall` is: the script of a command is a function of it.
+/// What a command asks for, its operands looked up: an answer that is there already, a call or a statement on bits, or one on many bits, which are
+/// looked up where it is made.
+#[derive(Clone, Copy)]
+pub(crate) enum Action {
+    Alias(Answer),
+    Bits(BooleanCall),
+    Claim(BooleanStatement),
+    Kary(Kary, Range),
+    AtMost(Range, u64),
+}
