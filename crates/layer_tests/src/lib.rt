@@ -1,0 +1,10 @@
+#![tactic(auto)]
+
+#[cfg(test)]
+mod edges;
+#[cfg(test)]
+mod piles;
+#[cfg(test)]
+mod steps;
+#[cfg(test)]
+mod watches;
