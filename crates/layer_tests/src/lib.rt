@@ -3,6 +3,8 @@
 #[cfg(test)]
 mod edges;
 #[cfg(test)]
+mod knowing;
+#[cfg(test)]
 mod piles;
 #[cfg(test)]
 mod steps;
