@@ -4,6 +4,7 @@ use Rattle.relations.specs.Meaning.{Meaning}
 use Rattle.relations.specs.Rows.{RowsLocal}
 use Rattle.relations.specs.Unmet.{is_met, first_unmet}
 
+-- whether a judgement says that a row is not met
 abbrev pub unmet : Option Bool → Bool
 unmet None = false
 unmet (Some true) = false
