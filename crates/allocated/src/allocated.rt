@@ -12,8 +12,8 @@ use relations::{
     GadgetFault, Side, System, SystemFault, Term, Variable, just, less, minus_one, one_less, times,
 };
 
-/// A bit that no row forces yet. It can be neither copied nor let go nor made by hand: it becomes a bit of a circuit by being
-/// moved into the row that forces it.
+/// A bit that no row forces yet. It can be neither copied nor made by hand, and nothing but a fault lets it go: it becomes a bit of a
+/// circuit by being moved into the row or the rows that force it.
 pub struct LooseBit {
     variable: Variable,
 }
@@ -87,8 +87,8 @@ impl LooseBit {
         (LooseBit { variable }, value)
     }
 
-    /// The bit beside the answer of a call that comes before its row. A fault spends the bit: what is refused makes no bit.
-    pub fn beside<A, E>(self, outcome: Result<A, E>) -> Result<(LooseBit, A), E>
+    /// The bit beside the answer of steps that come before its row. Where these are refused there is no bit any more, since its gadget is refused.
+    pub fn beside<A>(self, outcome: Result<A, GadgetFault>) -> Result<(LooseBit, A), GadgetFault>
         ensures bit { IfOk result (λ r. r.0 ≡ self) }
         ensures answer { outcome ≡ over (λ r. r.1) result }
     {
