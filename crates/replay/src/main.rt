@@ -1,4 +1,4 @@
-// Runs each tape of data/first-bits.txt over the field with 101 elements, as rows101 does, and holds the text to the lines that stand below
+// Runs each tape of the files in data/ over the field with 101 elements, as rows101 does, and holds the text to the lines that stand below
 // it. A block of that file is a line `tape` with the bytes in hexadecimal, the expected text, and a line `---`. The blocks were made by a
 // program that computes the text from the rules in docs/TAPE.md and docs/CALLS.md, and shares no code with these crates.
 #![tactic(auto)]
@@ -40,9 +40,9 @@ fn agrees(heap: Global, block: &str) -> Result<bool, AllocError> {
     }
 }
 
-fn main(rt: HostRuntime) -> io::Result<()> {
-    let heap = rt.alloc();
-    let all = fs::read_to_string(&rt, "first-bits.txt")?;
+/// Runs the tapes of a file, and prints how many give what is expected.
+fn replay(rt: &HostRuntime, heap: Global, file: &str) -> io::Result<()> {
+    let all = fs::read_to_string(rt, file)?;
     let mut right: u32 = 0;
     let mut wrong: u32 = 0;
     for block in all.as_str().split_terminator("---\n") {
@@ -53,5 +53,11 @@ fn main(rt: HostRuntime) -> io::Result<()> {
             println!(rt; "not as expected: {block}")?;
         }
     }
-    println!(rt; "{right} tapes as expected, {wrong} not")
+    println!(rt; "{file}: {right} tapes as expected, {wrong} not")
+}
+
+fn main(rt: HostRuntime) -> io::Result<()> {
+    let heap = rt.alloc();
+    replay(&rt, heap, "first-bits.txt")?;
+    replay(&rt, heap, "bits.txt")
 }
