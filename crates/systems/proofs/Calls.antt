@@ -11,30 +11,25 @@ use Rattle.relations.specs.declared.term.Side.TheVariants.{Input as input, Witne
 use Rattle.relations.specs.declared.fault.SystemFault.{SystemFault}
 use Rattle.relations.specs.Script.{over}
 use Rattle.words.specs.declared.merge.Sizes.{Sizes}
-use Rattle.words.specs.Words.{tabulate, whole, combinations, combo, rows, meant, triple, floor, Placed, lists_in, triples_in, LcWritten, RowWritten}
+use Rattle.words.specs.Words.{tabulate, whole, combinations, combo, rows, meant, triple, floor, Placed, lists_in, triples_in, LcFits, LcWritten, RowWritten}
 use Rattle.words.specs.State.{State, Fit, view, with_lc, with_row}
 use Rattle.words.proofs.Tables.{tabulate_same, tabulate_more}
 use Rattle.words.proofs.Values.{stored_means}
-use Rattle.words.proofs.Areas.{chain_same, chain_more, tagged_same, tagged_more, combinations_same, combinations_more, rows_same, rows_more, stack_same, stack_more, floor_same, floor_more}
+use Rattle.words.proofs.Areas.{chain_count, chain_same, chain_more, tagged_same, tagged_more, combinations_same, combinations_more, rows_same, rows_more, stack_same, stack_more, floor_same, floor_more}
 use Rattle.std.proofs.lemmas.Bool.{and_parts}
 use Rattle.words.proofs.Cuts.{lists_in_append, triples_in_append, lists_in_more, triples_in_more, all_in_more}
 use Rattle.words.proofs.There.{merged_in, stored_free}
 use Rattle.systems.specs.Held.{Sized, Refused}
-use Rattle.systems.proofs.Views.{inputs_long, witnesses_long, rows_long, places_are, used_is, has_all_in}
-use Rattle.systems.proofs.Grown.{Done, refuse, accept}
+use Rattle.systems.specs.Adding.{LcSized, LcRefused, with_side}
+use Rattle.systems.proofs.Views.{inputs_long, witnesses_long, rows_long, places_are, used_is, has_all_in, has_small}
+use Rattle.systems.proofs.Grown.{Later, Done, refuse, accept}
 
 -- ---- inputs and witnesses
-abbrev pub inputs_to : State → ℕ → List ℕ → State
-inputs_to s n vs = record { modulus = s.modulus; inputs = n + 1; witnesses = s.witnesses; lcs = s.lcs; count = s.count; front = s.front; back = s.back; input_room = s.input_room; witness_room = s.witness_room; term_room = s.term_room; row_room = s.row_room; row_words = s.row_words; term_words = s.term_words; value_words = vs }
-
-abbrev pub witnesses_to : State → ℕ → List ℕ → State
-witnesses_to s n vs = record { modulus = s.modulus; inputs = s.inputs; witnesses = n + 1; lcs = s.lcs; count = s.count; front = s.front; back = s.back; input_room = s.input_room; witness_room = s.witness_room; term_room = s.term_room; row_room = s.row_room; row_words = s.row_words; term_words = s.term_words; value_words = vs }
-
 abbrev pub with_input : State → List ℕ → State
-with_input s vs = inputs_to s s.inputs vs
+with_input s vs = with_side input s vs
 
 abbrev pub with_witness : State → List ℕ → State
-with_witness s vs = witnesses_to s s.witnesses vs
+with_witness s vs = with_side witness s vs
 
 pub input_full : (s : State) (o : Option ℕ) → Fit s → s.input_room ≤ s.inputs → Done (new_variable input o) s (Err InputsFull) s
 input_full s o f h =
@@ -194,14 +189,13 @@ witness_new s x f h b =
         rw t (λ i. (Ok (Witness (witnesses_long s i)), record { keeps = true; inputs = ins i; witnesses = set_more s.witnesses x s.input_room s.value_words long i; combos = (view s).combos; rows = (view s).rows; input_room = s.input_room; witness_room = s.witness_room; term_room = s.term_room; row_room = s.row_room; capped = false }))
 
 -- ---- combinations
-pub lc_unknown : (s : State) (ts : List Term) → Fit s → false ≡ has_all (view s) ts → Done (new_lc s.modulus ts) s (Err UnknownVariable) s
-lc_unknown s ts f e = let t = sym e in refuse (new_lc s.modulus ts) s UnknownVariable f (rw t)
+pub lc_unknown : (s : State) (ts : List Term) → has_all (view s) ts ≡ false → LcRefused s ts UnknownVariable
+lc_unknown s ts e = rw e
 
-pub lc_full : (s : State) (ts : List Term) (n : ℕ) → Fit s → true ≡ has_all (view s) ts → n ≡ length (whole s.modulus ts) → s.back - s.front ≤ n → Done (new_lc s.modulus ts) s (Err TermsFull) s
+pub lc_full : (s : State) (ts : List Term) (n : ℕ) → Fit s → has_all (view s) ts ≡ true → n ≡ length (whole s.modulus ts) → s.back - s.front ≤ n → LcRefused s ts TermsFull
 lc_full s ts n f e q h =
-    let t = sym e in
     let z : leb (used (view s) + (length (whole s.modulus ts) + 1)) s.term_room ≡ false = lt-leb _ _ (omega (arith, used_is s f, f.terms_in, f.back_in)) in
-    refuse (new_lc s.modulus ts) s TermsFull f (rw (t, z))
+    rw (e, z)
 
 pub lc_combos : (s : State) (ts : List Term) (n kept : ℕ) (vs : List ℕ) → Fit s → LcWritten s.modulus s.front n kept ts s.term_words vs → combinations (s.lcs + 1) (s.front + n + 1) vs ≡ combinations s.lcs s.front s.term_words ++ (record { terms = whole s.modulus ts; word = kept } ∷ [])
 lc_combos s ts n kept vs f x =
@@ -211,8 +205,8 @@ lc_combos s ts n kept vs f x =
 pub lc_rows : (s : State) (ts : List Term) (n kept : ℕ) (vs : List ℕ) → Fit s → n < s.back - s.front → LcWritten s.modulus s.front n kept ts s.term_words vs → rows s.count s.row_words s.term_words ≡ rows s.count s.row_words vs
 lc_rows s ts n kept vs f h x = rows_same s.term_room s.count s.row_words s.row_words s.term_words vs (λ j a b. refl) (λ j a b. sym (x.above j (omega (arith, f.at_floor)))) f.stack
 
-lc_fit : (s : State) (ts : List Term) (n kept : ℕ) (vs : List ℕ) → Fit s → true ≡ has_all (view s) ts → n < s.back - s.front → kept < s.modulus → length vs ≡ length s.term_words → LcWritten s.modulus s.front n kept ts s.term_words vs → Fit (with_lc s n vs)
-lc_fit s ts n kept vs f e h b l x = record {
+pub lc_fit : (s : State) (ts : List Term) (n kept : ℕ) (vs : List ℕ) → Fit s → LcSized s ts n → kept < s.modulus → length vs ≡ length s.term_words → LcWritten s.modulus s.front n kept ts s.term_words vs → Fit (with_lc s n vs)
+lc_fit s ts n kept vs f z b l x = record {
   modulus = f.modulus;
   small = f.small;
   rows_long = f.rows_long;
@@ -225,7 +219,7 @@ lc_fit s ts n kept vs f e h b l x = record {
   inputs_in = f.inputs_in;
   witnesses_in = f.witnesses_in;
   rows_in = f.rows_in;
-  terms_in = omega arith;
+  terms_in = omega (arith, z.room);
   back_in = f.back_in;
   chain = chain_more s.lcs s.front n vs x.heading (chain_same s.lcs s.front s.term_words vs (λ j a b. sym (x.below j b)) f.chain);
   tagged = tagged_more s.modulus s.lcs s.front n vs x.heading (subst (λ (y : ℕ). y < s.modulus) (sym x.word) b) (stored_free s.modulus s.front n vs ts x.holds)
@@ -239,42 +233,65 @@ lc_fit s ts n kept vs f e h b l x = record {
       ∙ lists_in_append s.inputs s.witnesses (s.front + n + 1) (combinations s.lcs s.front s.term_words) (record { terms = whole s.modulus ts; word = kept } ∷ [])
       ∙ (λ i. lists_in_more s.inputs s.witnesses s.front s.inputs s.witnesses (s.front + n + 1) (combinations s.lcs s.front s.term_words) (omega arith) (omega arith) (omega arith) f.combos_named i
       && (all_in_more s.inputs s.witnesses s.front s.inputs s.witnesses (s.front + n + 1) (whole s.modulus ts) (omega arith) (omega arith) (omega arith)
-      (merged_in s.modulus s.inputs s.witnesses s.front (handed ts) (handed ts) (has_all_in s ts f (sym e))) i && true));
+      (merged_in s.modulus s.inputs s.witnesses s.front (handed ts) (handed ts) (has_all_in s ts f z.known)) i && true));
   rows_named =
-      ap (triples_in s.inputs s.witnesses (s.front + n + 1)) (sym (lc_rows s ts n kept vs f h x))
+      ap (triples_in s.inputs s.witnesses (s.front + n + 1)) (sym (lc_rows s ts n kept vs f z.room x))
       ∙ triples_in_more s.inputs s.witnesses s.front s.inputs s.witnesses (s.front + n + 1) (rows s.count s.row_words s.term_words) (omega arith) (omega arith) (omega arith) f.rows_named;
 }
 
-pub lc_new : (s : State) (ts : List Term) (n kept : ℕ) (vs : List ℕ) → Fit s → true ≡ has_all (view s) ts → n ≡ length (whole s.modulus ts) → n < s.back - s.front → kept ≡ (sum_of s.modulus ts).value (assigned (view s)) → kept < s.modulus → length vs ≡ length s.term_words → LcWritten s.modulus s.front n kept ts s.term_words vs →
+-- the words have room for it
+pub lc_fits : (s : State) (ts : List Term) (n kept : ℕ) → Fit s → LcSized s ts n → LcFits s.modulus s.front n kept ts s.term_words
+lc_fits s ts n kept f z = record {
+  modulus = f.modulus;
+  long = z.long;
+  limit = omega (arith, z.room, f.back_in, f.term_limit);
+  words = omega (arith, z.room, f.back_in, f.terms_long);
+  small = has_small s ts f z.known;
+}
+
+pub few_lcs : (s : State) → Fit s → s.lcs ≤ 65536
+few_lcs s f = omega (arith, chain_count s.lcs s.front s.term_words f.chain, f.terms_in, f.back_in, f.term_limit)
+
+-- all that was there is there after
+pub lc_later : (s : State) (ts : List Term) (n kept : ℕ) (vs : List ℕ) → LcSized s ts n → LcWritten s.modulus s.front n kept ts s.term_words vs → Later s (with_lc s n vs)
+lc_later s ts n kept vs z x = record {
+  inputs = omega arith;
+  witnesses = omega arith;
+  front = omega arith;
+  count = omega arith;
+  back = omega arith;
+  input_room = refl;
+  term_room = refl;
+  input_words = λ j c. refl;
+  witness_words = λ j c. refl;
+  combo_words = x.below;
+  row_words = λ j c. refl;
+  row_terms = λ j c d. x.above j (omega (arith, z.room));
+}
+
+-- the combinations that it means, with one more
+pub lc_more : (s : State) (ts : List Term) (n kept : ℕ) (vs : List ℕ) → Fit s → LcWritten s.modulus s.front n kept ts s.term_words vs → (view (with_lc s n vs)).combos ≡ (view s).combos ++ (record { sum = sum_of s.modulus ts; kept = Some kept } ∷ [])
+lc_more s ts n kept vs f x =
+    ap (map (combo s.modulus)) (lc_combos s ts n kept vs f x)
+    ∙ map-append (combo s.modulus) (combinations s.lcs s.front s.term_words) (record { terms = whole s.modulus ts; word = kept } ∷ [])
+    ∙ (λ i. map (combo s.modulus) (combinations s.lcs s.front s.term_words) ++ (record { sum = stored_means s.modulus ts f.modulus i; kept = Some kept } ∷ []))
+
+pub lc_room : (s : State) (ts : List Term) (n : ℕ) → Fit s → LcSized s ts n → leb (used (view s) + (length (whole s.modulus ts) + 1)) s.term_room ≡ true
+lc_room s ts n f z = le-leb _ _ (omega (arith, used_is s f, f.terms_in, f.back_in, z.room, z.long))
+
+pub lc_new : (s : State) (ts : List Term) (n kept : ℕ) (vs : List ℕ) → Fit s → LcSized s ts n → kept ≡ (sum_of s.modulus ts).value (assigned (view s)) → kept < s.modulus → length vs ≡ length s.term_words → LcWritten s.modulus s.front n kept ts s.term_words vs →
     Done (new_lc s.modulus ts) s (Ok (Combination (s.front + n))) (with_lc s n vs)
-lc_new s ts n kept vs f e q h k b l x =
-    accept (new_lc s.modulus ts) s (with_lc s n vs) (Combination (s.front + n)) f (lc_fit s ts n kept vs f e h b l x)
-    record {
-      inputs = omega arith;
-      witnesses = omega arith;
-      front = omega arith;
-      count = omega arith;
-      back = omega arith;
-      input_room = refl;
-      term_room = refl;
-      input_words = λ j c. refl;
-      witness_words = λ j c. refl;
-      combo_words = x.below;
-      row_words = λ j c. refl;
-      row_terms = λ j c d. x.above j (omega arith);
-    }
-    ran
+lc_new s ts n kept vs f z k b l x =
+    accept (new_lc s.modulus ts) s (with_lc s n vs) (Combination (s.front + n)) f (lc_fit s ts n kept vs f z b l x) (lc_later s ts n kept vs z x) ran
   where
-    more : map (combo s.modulus) (combinations s.lcs s.front s.term_words) ++ (combo_of s.modulus ts (view s) ∷ []) ≡ map (combo s.modulus) (combinations (s.lcs + 1) (s.front + n + 1) vs)
-    more = sym (ap (map (combo s.modulus)) (lc_combos s ts n kept vs f x)
-        ∙ map-append (combo s.modulus) (combinations s.lcs s.front s.term_words) (record { terms = whole s.modulus ts; word = kept } ∷ [])
-        ∙ (λ i. map (combo s.modulus) (combinations s.lcs s.front s.term_words) ++ (record { sum = stored_means s.modulus ts f.modulus i; kept = Some (k i) } ∷ [])))
+    more : (view s).combos ++ (combo_of s.modulus ts (view s) ∷ []) ≡ (view (with_lc s n vs)).combos
+    more = sym (lc_more s ts n kept vs f x ∙ (λ i. (view s).combos ++ (record { sum = sum_of s.modulus ts; kept = Some (k i) } ∷ [])))
 
     ran : Ran (new_lc s.modulus ts) (view s) (Ok (Combination (s.front + n))) (view (with_lc s n vs))
     ran =
-        let t = sym e in
-        let z : leb (used (view s) + (length (whole s.modulus ts) + 1)) s.term_room ≡ true = le-leb _ _ (omega (arith, used_is s f, f.terms_in, f.back_in)) in
-        rw (t, z) (λ i. (Ok (Combination (places_are s f i + sym q i)), record { keeps = true; inputs = (view s).inputs; witnesses = (view s).witnesses; combos = more i; rows = map (meant s.modulus) (lc_rows s ts n kept vs f h x i); input_room = s.input_room; witness_room = s.witness_room; term_room = s.term_room; row_room = s.row_room; capped = false }))
+        let t = z.known in
+        let u = lc_room s ts n f z in
+        rw (t, u) (λ i. (Ok (Combination (places_are s f i + sym z.long i)), record { keeps = true; inputs = (view s).inputs; witnesses = (view s).witnesses; combos = more i; rows = map (meant s.modulus) (lc_rows s ts n kept vs f z.room x i); input_room = s.input_room; witness_room = s.witness_room; term_room = s.term_room; row_room = s.row_room; capped = false }))
 
 -- ---- rows
 -- what a row names is there where each of its sums names what is there

@@ -1,14 +1,14 @@
 -- Words that are stored stay where a system grows, and are what is left where it is cut.
-use Rattle.std.proofs.Common.{◌≡◌, ℕ, ◌+◌, ◌-◌, ◌*◌, ◌<◌, ◌≤◌, length, get_or, take, Ok, Err, Result, sym, refl, ap, ◌∙◌, subst, arith}
+use Rattle.std.proofs.Common.{◌≡◌, ℕ, ◌+◌, ◌-◌, ◌*◌, ◌<◌, ◌≤◌, length, get_or, take, Ok, Err, Result, sym, refl, ap, ◌∙◌, arith}
 use Rattle.std.proofs.lemmas.List.{take-take}
 use Rattle.relations.specs.declared.fault.SystemFault.{SystemFault}
-use Rattle.relations.specs.Meaning.{Meaning, Stored, Step, Ran, places, rows_use, cut, Shorter, Extends, Leaves}
+use Rattle.relations.specs.Meaning.{Meaning, Stored, Step, Ran, places, rows_use, cut, Shorter, Begins, Extends, Leaves}
 use Rattle.words.specs.State.{State, Fit, view, words_of}
 use Rattle.words.proofs.Tables.{tabulate_same, tabulate_take}
 use Rattle.systems.proofs.Views.{inputs_long, witnesses_long, rows_long, places_are, use_is}
 
 -- a system that is no shorter, whose first words are the same, adds
-grown : (m n : Meaning) (s t : Stored) → Shorter m n → cut m t ≡ s → Extends m s n t
+pub grown : (m n : Meaning) (s t : Stored) → Shorter m n → cut m t ≡ s → Extends m s n t
 grown m n s t h e = λ l u b. record {
   shorter = record {
     inputs = omega (arith, b.shorter.inputs, h.inputs);
@@ -78,20 +78,19 @@ pub record Done {A : Type 0} (step : Step (Result A SystemFault)) (s : State) (r
 pub refuse : {A : Type 0} (step : Step (Result A SystemFault)) (s : State) (e : SystemFault) → Fit s → Ran step (view s) (Err e) (view s) → Done step s (Err e) s
 refuse step s e f h = record { fit = f; does = h; adds = λ l u b. b; leaves = refl }
 
-pub accept : {A : Type 0} (step : Step (Result A SystemFault)) (s t : State) (x : A) → Fit s → Fit t → Later s t → Ran step (view s) (Ok x) (view t) → Done step s (Ok x) t
-accept step s t x f g l h = record {
-  fit = g;
-  does = h;
-  adds = grown (view s) (view t) (words_of s) (words_of t) record {
+pub later_begins : (s t : State) → Fit s → Fit t → Later s t → Begins (view s) (words_of s) (view t) (words_of t)
+later_begins s t f g l = record {
+  shorter = record {
     inputs = omega (arith, inputs_long s, inputs_long t, l.inputs);
     witnesses = omega (arith, witnesses_long s, witnesses_long t, l.witnesses);
     combos = omega (arith, places_are s f, places_are t g, l.front);
     rows = omega (arith, rows_long s, rows_long t, l.count);
     terms = omega (arith, use_is s f, use_is t g, l.back, l.term_room);
-  } (kept_words s t f g l);
-  leaves = tt;
+  };
+  words = kept_words s t f g l;
 }
 
--- the same at another name of the modulus, and of the system that is left
-pub moved : {A : Type 0} (step : ℕ → Step (Result A SystemFault)) (p : ℕ) (s t u : State) (r : Result A SystemFault) → s.modulus ≡ p → t ≡ u → Done (step s.modulus) s r u → Done (step p) s r t
-moved step p s t u r e h d = subst (λ (x : State). Done (step p) s r x) (sym h) (subst (λ (n : ℕ). Done (step n) s r u) e d)
+pub accept : {A : Type 0} (step : Step (Result A SystemFault)) (s t : State) (x : A) → Fit s → Fit t → Later s t → Ran step (view s) (Ok x) (view t) → Done step s (Ok x) t
+accept step s t x f g l h =
+    let b = later_begins s t f g l in
+    record { fit = g; does = h; adds = grown (view s) (view t) (words_of s) (words_of t) b.shorter b.words; leaves = tt }

@@ -9,3 +9,8 @@ pub mod Order
 pub mod Worth
 pub mod Outline
 pub mod Readers
+pub mod Forgetting
+pub mod Besides
+pub mod Shown
+pub mod Coefficients
+pub mod Openings

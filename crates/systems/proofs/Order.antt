@@ -1,5 +1,5 @@
 -- What adds to a system or cuts it leaves its terms in order.
-use Rattle.std.proofs.Common.{◌≡◌, ℕ, zero, suc, ◌+◌, ◌-◌, ◌*◌, ◌/◌, ◌%◌, ◌<◌, ◌≤◌, Bool, true, false, cond, eqb, ltb, List, [], ◌∷◌, ◌++◌, map, length, take, sym, refl, ap, ◌∙◌, subst, arith}
+use Rattle.std.proofs.Common.{◌≡◌, ℕ, zero, suc, ◌+◌, ◌*◌, ◌/◌, ◌%◌, ◌≤◌, Bool, true, false, cond, eqb, ltb, List, [], ◌∷◌, ◌++◌, map, length, take, sym, refl, ap, ◌∙◌, subst, arith}
 use native.Mathlib.Nat.{zero-mod}
 use Rattle.std.proofs.lemmas.Bool.{and_parts, eqb-false}
 use Rattle.relations.specs.declared.term.Variable.{Variable}
@@ -16,10 +16,10 @@ use Rattle.written.specs.declared.Counts.{Counts}
 use Rattle.written.specs.Keeps.{up_to, Named}
 use Rattle.written.proofs.Keeps.{decode_input, decode_witness, decode_combination}
 use Rattle.systems.specs.Held.{Sized, CutAt}
+use Rattle.systems.specs.Adding.{LcSized, cut_state}
 use Rattle.systems.specs.Order.{outline, InOrder, RowsNamed, Ordered}
 use Rattle.systems.proofs.Views.{has_all_in}
 use Rattle.systems.proofs.Calls.{lc_combos, lc_rows, row_combos, row_rows}
-use Rattle.systems.proofs.Rewinds.{cut_state}
 
 -- ---- where more is there
 -- m has no fewer inputs and witnesses than n
@@ -168,11 +168,11 @@ variable_ordered s t r e c q o = record {
 }
 
 -- a combination more
-pub lc_ordered : (s : State) (ts : List Term) (n kept : ℕ) (vs : List ℕ) → Fit s → true ≡ has_all (view s) ts → n < s.back - s.front → LcWritten s.modulus s.front n kept ts s.term_words vs → Ordered s → Ordered (with_lc s n vs)
-lc_ordered s ts n kept vs f e h x o = record {
+pub lc_ordered : (s : State) (ts : List Term) (n kept : ℕ) (vs : List ℕ) → Fit s → LcSized s ts n → LcWritten s.modulus s.front n kept ts s.term_words vs → Ordered s → Ordered (with_lc s n vs)
+lc_ordered s ts n kept vs f z x o = record {
   combos = subst (λ (xs : List Kept). InOrder m 0 xs) (sym (lc_combos s ts n kept vs f x))
       (in_order_append m 0 0 (combinations s.lcs s.front s.term_words) (record { terms = whole s.modulus ts; word = kept } ∷ []) (in_order_more (outline s) m 0 (combinations s.lcs s.front s.term_words) same o.combos) (newest, tt));
-  rows = subst (λ (xs : List Triple). RowsNamed m xs) (lc_rows s ts n kept vs f h x) (rows_more (outline s) m (rows s.count s.row_words s.term_words) same (omega arith) o.rows);
+  rows = subst (λ (xs : List Triple). RowsNamed m xs) (lc_rows s ts n kept vs f z.room x) (rows_more (outline s) m (rows s.count s.row_words s.term_words) same (omega arith) o.rows);
 }
   where
     m : Counts
@@ -183,7 +183,7 @@ lc_ordered s ts n kept vs f e h x o = record {
 
     newest : Named (up_to m (0 + places (map (combo 0) (combinations s.lcs s.front s.term_words)))) (whole s.modulus ts)
     newest = named_more (outline s) (up_to m (0 + places (map (combo 0) (combinations s.lcs s.front s.term_words)))) (whole s.modulus ts) same (omega (arith, combinations_used 0 s.lcs s.front s.term_words f.chain))
-        (whole_named s.modulus (outline s) ts (has_all_in s ts f (sym e)))
+        (whole_named s.modulus (outline s) ts (has_all_in s ts f z.known))
 
 -- a row more
 pub row_ordered : (s : State) (a b c : List Term) (la lb lc low : ℕ) (qs vs : List ℕ) → Fit s → Sized s a b c la lb lc → low + (la + lb + lc) ≡ s.back → RowWritten s.modulus s.count s.back low a b c s.row_words qs s.term_words vs → Ordered s → Ordered (with_row s low qs vs)

@@ -1,5 +1,5 @@
 -- A row's sums written out.
-use Rattle.std.proofs.Common.{◌≡◌, ℕ, zero, suc, ◌+◌, ◌-◌, ◌<◌, ◌≤◌, Bool, true, false, cond, eqb, ltb, List, [], ◌∷◌, ◌++◌, length, get_or, take, drop, sym, refl, ap, ◌∙◌, subst, le_of_suc-le-suc, arith, ltb-false, ltb-true, Ok, Err, Result, leb, le-ltb, lt-ltb, le-leb}
+use Rattle.std.proofs.Common.{◌≡◌, ℕ, zero, suc, ◌+◌, ◌-◌, ◌<◌, ◌≤◌, Bool, true, false, cond, eqb, ltb, List, [], ◌∷◌, ◌++◌, length, get_or, take, drop, sym, refl, ap, ◌∙◌, subst, le_of_suc-le-suc, arith, ltb-false, ltb-true, leb-true, Ok, Err, Result, leb, le-ltb, lt-ltb, le-leb}
 use borrow.Author.Tests.{lt-leb}
 use Rattle.std.proofs.lemmas.Bool.{eqb-true, eqb-false}
 use Rattle.relations.specs.declared.term.Variable.{Variable}
@@ -11,15 +11,15 @@ use Rattle.words.proofs.Cuts.{lies}
 use Rattle.words.proofs.Tables.{tabulate_same, tabulate_length}
 use Rattle.written.specs.declared.Counts.{Counts}
 use Rattle.written.specs.declared.writer.Writer.{Writer}
-use Rattle.written.specs.Cells.{cells, Lies, Over, written_out}
+use Rattle.written.specs.Cells.{Lies, Over, written_out}
 use Rattle.written.specs.Keeps.{Keeps}
 use Rattle.systems.proofs.Worth.{part_worth}
 use Rattle.systems.specs.declared.rooms.OutlineFault.{OutlineFault}
 use Rattle.systems.specs.declared.rooms.OutlineFault.TheVariants.{NoSuchRow, TooShort}
 use Rattle.systems.specs.declared.store.Part.{Part}
 use Rattle.systems.specs.declared.store.Part.TheVariants.{A, B, C}
-use Rattle.systems.proofs.Views.{rows_long}
 use Rattle.systems.specs.Read.{Writing}
+use Rattle.systems.specs.Adding.{PartWritten}
 use Rattle.systems.specs.Order.{outline, Ordered}
 use Rattle.systems.specs.Outline.{place, working, width, placed, coefficients, row_sum, outlining, KeepsValue}
 use Rattle.systems.proofs.Verdicts.{row_is}
@@ -89,35 +89,45 @@ pub record Outlined (s : State) (part : Part) (i : ℕ) (os qs : List ℕ) : Typ
   pub beyond : drop (working s) qs ≡ drop (working s) os
   pub keeps : KeepsValue s.modulus (view s) (row_sum part i (view s)) qs
 
-outlined_so : (s : State) (part : Part) (i : ℕ) (os qs : List ℕ) → Fit s → Ordered s → i < s.count → length qs ≡ length os → working s ≤ length os →
-    Over (outline s) (written_out s.modulus (outline s) (get_or s.row_words (place part i) 0) (get_or s.row_words (place part i + 1) 0) s.term_words) os qs →
-    Keeps s.modulus (outline s) (get_or s.row_words (place part i) 0) (get_or s.row_words (place part i + 1) 0) s.term_words qs → Outlined s part i os qs
-outlined_so s part i os qs f r h e l o k =
+pub outlined : (s : State) (part : Part) (i : ℕ) (os qs : List ℕ) → Fit s → Ordered s → i < s.count → working s ≤ length os → PartWritten s part i os qs → Outlined s part i os qs
+outlined s part i os qs f r h l w =
     let ei : length (view s).inputs ≡ s.inputs = tabulate_length s.inputs _ in
     let ew : length (view s).witnesses ≡ s.witnesses = tabulate_length s.witnesses _ in
     record {
-      written = shaped (outline s) _ os qs (length (view s).inputs) (length (view s).witnesses) ei ew o (omega (arith, ei, ew)) ∙ ap (λ (z : Sum). coefficients s.modulus (view s) z) (part_is s part i h);
-      beyond = beyond_same (working s) os qs e o.beyond;
-      keeps = subst (λ (z : Sum). KeepsValue s.modulus (view s) z qs) (part_is s part i h) (part_worth s part i qs f r h (omega (arith, e)) k);
+      written = shaped (outline s) _ os qs (length (view s).inputs) (length (view s).witnesses) ei ew w.over (omega (arith, ei, ew, w.same_long)) ∙ ap (λ (z : Sum). coefficients s.modulus (view s) z) (part_is s part i h);
+      beyond = beyond_same (working s) os qs w.same_long w.over.beyond;
+      keeps = subst (λ (z : Sum). KeepsValue s.modulus (view s) z qs) (part_is s part i h) (part_worth s part i qs f r h (omega (arith, w.same_long)) w.keeps);
     }
 
 -- ---- what writing a part of row i out comes to
-pub no_such_row : (s : State) (i l : ℕ) → s.count ≤ i → ◌≡◌ {A = Result (Unit {0}) OutlineFault} (Err NoSuchRow) (outlining (length (view s).rows) (working s) i l)
+pub no_such_row : (s : State) (i l : ℕ) → s.count ≤ i → ◌≡◌ {A = Result (Unit {0}) OutlineFault} (Err NoSuchRow) (outlining s.count (working s) i l)
 no_such_row s i l h =
-    let t : ltb i (length (view s).rows) ≡ false = le-ltb i _ (omega (arith, rows_long s)) in
+    let t : ltb i s.count ≡ false = le-ltb i _ h in
     sym (rw t)
 
-pub too_short : (s : State) (i l : ℕ) → i < s.count → l < working s → ◌≡◌ {A = Result (Unit {0}) OutlineFault} (Err TooShort) (outlining (length (view s).rows) (working s) i l)
+pub too_short : (s : State) (i l : ℕ) → i < s.count → l < working s → ◌≡◌ {A = Result (Unit {0}) OutlineFault} (Err TooShort) (outlining s.count (working s) i l)
 too_short s i l h k =
-    let t : ltb i (length (view s).rows) ≡ true = lt-ltb i _ (omega (arith, rows_long s)) in
+    let t : ltb i s.count ≡ true = lt-ltb i _ h in
     let z : leb (working s) l ≡ false = lt-leb (working s) l k in
     sym (rw (t, z))
 
-pub written_out_fits : (s : State) (i l : ℕ) → i < s.count → working s ≤ l → ◌≡◌ {A = Result (Unit {0}) OutlineFault} (Ok tt) (outlining (length (view s).rows) (working s) i l)
+pub written_out_fits : (s : State) (i l : ℕ) → i < s.count → working s ≤ l → ◌≡◌ {A = Result (Unit {0}) OutlineFault} (Ok tt) (outlining s.count (working s) i l)
 written_out_fits s i l h k =
-    let t : ltb i (length (view s).rows) ≡ true = lt-ltb i _ (omega (arith, rows_long s)) in
+    let t : ltb i s.count ≡ true = lt-ltb i _ h in
     let z : leb (working s) l ≡ true = le-leb (working s) l k in
     sym (rw (t, z))
+
+-- it is done only where there is such a row, and room to write it
+pub outlining_done : (n w i l : ℕ) → ◌≡◌ {A = Result (Unit {0}) OutlineFault} (Ok tt) (outlining n w i l) → (i < n) × (w ≤ l)
+outlining_done n w i l e = by_row (ltb i n) refl e
+  where
+    by_room : (b : Bool) → leb w l ≡ b → i < n → ◌≡◌ {A = Result (Unit {0}) OutlineFault} (Ok tt) (cond b (Ok tt) (Err TooShort)) → (i < n) × (w ≤ l)
+    by_room true q h e = (h, leb-true w l q)
+    by_room false q h e = cc
+
+    by_row : (b : Bool) → ltb i n ≡ b → ◌≡◌ {A = Result (Unit {0}) OutlineFault} (Ok tt) (cond b (cond (leb w l) (Ok tt) (Err TooShort)) (Err NoSuchRow)) → (i < n) × (w ≤ l)
+    by_row true q e = by_room (leb w l) refl (ltb-true i n q) e
+    by_row false q e = cc
 
 -- ---- through a writer
 pub part_lies_read : (s : State) (part : Part) (i at : ℕ) (ws : List ℕ) → at ≡ place part i → ws ≡ s.term_words → Fit s → i < s.count → Lies (get_or s.row_words at 0) (get_or s.row_words (at + 1) 0) ws
@@ -126,10 +136,11 @@ part_lies_read s part i at ws ea e f h =
     (subst (λ (x : ℕ). Lies (get_or s.row_words x 0) (get_or s.row_words (x + 1) 0) s.term_words) (sym ea)
     (lies_in s (get_or s.row_words (place part i) 0) (get_or s.row_words (place part i + 1) 0) f (part_lies s part i f h)))
 
-pub outlined_read : (s : State) (part : Part) (i at : ℕ) (w : Writer) (os qs : List ℕ) → at ≡ place part i → Writing s w → Fit s → Ordered s → i < s.count → length qs ≡ length os → cells w.counts ≤ length os →
+pub part_written : (s : State) (part : Part) (i at : ℕ) (w : Writer) (os qs : List ℕ) → at ≡ place part i → Writing s w → length qs ≡ length os →
     Over w.counts (written_out w.modulus w.counts (get_or s.row_words at 0) (get_or s.row_words (at + 1) 0) w.terms.now) os qs →
-    Keeps w.modulus w.counts (get_or s.row_words at 0) (get_or s.row_words (at + 1) 0) w.terms.now qs → Outlined s part i os qs
-outlined_read s part i at w os qs ea e f r h q l o k =
-    outlined_so s part i os qs f r h q (subst (λ (m : Counts). cells m ≤ length os) e.counts l)
-    (subst (λ (x : Type 0). x) (λ j. Over (e.counts j) (written_out (e.modulus j) (e.counts j) (get_or s.row_words (ea j) 0) (get_or s.row_words (ea j + 1) 0) (e.terms j)) os qs) o)
-    (subst (λ (x : Type 0). x) (λ j. Keeps (e.modulus j) (e.counts j) (get_or s.row_words (ea j) 0) (get_or s.row_words (ea j + 1) 0) (e.terms j) qs) k)
+    Keeps w.modulus w.counts (get_or s.row_words at 0) (get_or s.row_words (at + 1) 0) w.terms.now qs → PartWritten s part i os qs
+part_written s part i at w os qs ea e q o k = record {
+  same_long = q;
+  over = subst (λ (x : Type 0). x) (λ j. Over (e.counts j) (written_out (e.modulus j) (e.counts j) (get_or s.row_words (ea j) 0) (get_or s.row_words (ea j + 1) 0) (e.terms j)) os qs) o;
+  keeps = subst (λ (x : Type 0). x) (λ j. Keeps (e.modulus j) (e.counts j) (get_or s.row_words (ea j) 0) (get_or s.row_words (ea j + 1) 0) (e.terms j) qs) k;
+}

@@ -12,6 +12,7 @@ use Rattle.words.proofs.Areas.{combinations_used, floor_below}
 use Rattle.words.proofs.Cuts.{combos_are, rows_are, rows_take, stack_take, floor_take}
 use Rattle.systems.specs.Read.{CombinationsRead}
 use Rattle.systems.specs.Held.{CutAt, Barred}
+use Rattle.systems.specs.Adding.{cut_state}
 use Rattle.systems.proofs.Views.{inputs_long, witnesses_long, lcs_long, rows_long}
 use Rattle.systems.proofs.Grown.{kept_words}
 
@@ -54,10 +55,6 @@ verdict s i w k r end x y a b c d e ch p q =
 
 pub names_cut : (s : State) (i w k r end : ℕ) → i ≤ s.inputs → w ≤ s.witnesses → k ≤ s.lcs → r ≤ s.count → take k (combinations s.lcs s.front s.term_words) ≡ combinations k end s.term_words → Chain k end s.term_words → false ≡ lists_in i w end (combinations k end s.term_words) → Barred s i w k r
 names_cut s i w k r end a b c d e ch p = verdict s i w k r end false (triples_in i w end (rows r s.row_words s.term_words)) a b c d e ch p refl
-
--- the system cut
-abbrev pub cut_state : State → ℕ → ℕ → ℕ → ℕ → ℕ → ℕ → State
-cut_state s i w k r end low = record { modulus = s.modulus; inputs = i; witnesses = w; lcs = k; count = r; front = end; back = low; input_room = s.input_room; witness_room = s.witness_room; term_room = s.term_room; row_room = s.row_room; row_words = s.row_words; term_words = s.term_words; value_words = s.value_words }
 
 -- a rewinding from s to t with the answer r: what its contract says
 pub record Rewound (s : State) (i w k n : ℕ) (r : Result (Unit {0}) SystemFault) (t : State) : Type 0 where

@@ -2,6 +2,7 @@
 use Rattle.std.specs.Prelude.{◌≡◌, ℕ, ◌+◌, ◌-◌, ◌≤◌, true, false, List, length, take, Err}
 use Rattle.field.specs.declared.Field.{Ghosts}
 use Rattle.systems.specs.declared.valued.Valued.{Valued}
+use Rattle.systems.specs.declared.setup.Setup.{Setup}
 use Rattle.relations.specs.declared.term.Term.{Term}
 use Rattle.relations.specs.declared.fault.SystemFault.{SystemFault}
 use Rattle.relations.specs.declared.term.Side.{Side}
@@ -9,7 +10,8 @@ use Rattle.relations.specs.declared.term.Side.TheVariants.{Input as input, Witne
 use Rattle.relations.specs.Meaning.{Meaning, Stored, Ran, has_all, admit, enforce, may_cut, full}
 use Rattle.words.specs.Words.{whole, combinations, Chain, Tagged, rows, floor, lists_in, triples_in}
 use Rattle.words.specs.State.{State, view, words_of}
-use Rattle.systems.specs.Stores.{beside}
+use Rattle.systems.specs.Stores.{beside, bare}
+use Rattle.systems.specs.Forgotten.{forgotten, without}
 
 abbrev pub state : {F : Type 0} {G : Ghosts F} → Valued F G → State
 state v = beside v.store v.values.now
@@ -19,6 +21,13 @@ meant_by v = view (state v)
 
 abbrev pub stored_by : {F : Type 0} {G : Ghosts F} → Valued F G → Stored
 stored_by v = words_of (state v)
+
+-- what a system that keeps no values means, and what it stores: a store's share of both
+abbrev pub shown_by : {F : Type 0} {G : Ghosts F} → Setup F G → Meaning
+shown_by v = forgotten (view (bare v.store))
+
+abbrev pub laid_by : {F : Type 0} {G : Ghosts F} → Setup F G → Stored
+laid_by v = without (words_of (bare v.store))
 
 -- how many variables a side has, its room, and what a full one is refused with
 abbrev pub at_side : State → Side → ℕ × ℕ × SystemFault

@@ -1,6 +1,8 @@
 pub mod Props
 pub mod Stores
+pub mod Forgotten
 pub mod Held
+pub mod Adding
 pub mod Opening
 pub mod Order
 pub mod Outline

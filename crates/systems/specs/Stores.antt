@@ -1,9 +1,9 @@
 -- A store of rows and terms in lent words.
-use Rattle.std.specs.Prelude.{◌≡◌, ℕ, ◌-◌, List, length}
+use Rattle.std.specs.Prelude.{◌≡◌, ℕ, ◌-◌, List, length, replicate}
 use Rattle.systems.specs.declared.store.Store.{Store}
 use Rattle.relations.specs.declared.term.Term.{Term}
 use Rattle.words.specs.Words.{LcWritten, RowWritten}
-use Rattle.words.specs.State.{State, with_lc, with_row}
+use Rattle.words.specs.State.{State, Fit, with_lc, with_row}
 
 -- a store, beside these kept values
 abbrev pub beside : Store → List ℕ → State
@@ -23,6 +23,18 @@ beside s vs = record {
   term_words = s.terms.now;
   value_words = vs;
 }
+
+-- n zeros
+unfoldable pub zeros : ℕ → List ℕ
+zeros n = replicate n 0
+
+-- a store beside zeros in place of kept values, as many as inputs and witnesses can be
+abbrev pub bare : Store → State
+bare s = beside s (zeros 131072)
+
+-- the words of a store are well laid, whatever values are kept beside it
+abbrev pub Laid : Store → Type 0
+Laid s = Fit (bare s)
 
 -- a store with a combination more
 pub record LcAdded (n kept : ℕ) (ts : List Term) (s t : Store) : Type 0 where

@@ -1,7 +1,8 @@
-ghost use Rattle.std.specs.Prelude.{◌≡◌, length, Some as some, MatchResult};
+ghost use Rattle.std.specs.Prelude.{◌≡◌, true, length, Some as some, MatchResult};
 ghost use Rattle.systems.specs.declared.rooms.OutlineFault.TheVariants.{TooShort as too_short};
-ghost use Rattle.systems.specs.Opening.{of_opening, opening, Opened};
+ghost use Rattle.systems.specs.Opening.{of_opening, small, lent, opening, opening_setup, StoreOpened, Opened, SetupOpened};
 
+use crate::setup::Setup;
 use crate::store::Store;
 use crate::valued::Valued;
 use field::Field;
@@ -66,6 +67,47 @@ impl From<OpenFault> for Refusal {
     }
 }
 
+/// Whether no room is above 65,536.
+fn small(rooms: Rooms) -> bool
+    ensures { result ≡ small rooms }
+{
+    rooms.inputs <= 65536 && rooms.witnesses <= 65536 && rooms.terms <= 65536 && rooms.rows <= 65536
+}
+
+/// An empty store over lent words, if they are enough for the rooms.
+fn lay<'a>(
+    modulus: u32,
+    rooms: Rooms,
+    terms: &'a mut [u32],
+    rows: &'a mut [u32],
+) -> Result<Store<'a>, OpenFault>
+    requires { small rooms ≡ true }
+    ensures { MatchResult result (StoreOpened modulus rooms terms.old rows.old) (λ e. lent rooms (length terms.old) (length rows.old) ≡ some e) }
+{
+    let (term_room, row_room) = (rooms.terms as usize, rooms.rows as usize);
+    if terms.len() < 2 * term_room {
+        return Err(OpenFault::ShortTerms);
+    }
+    if rows.len() < 6 * row_room {
+        return Err(OpenFault::ShortRows);
+    }
+    Ok(Store {
+        rows,
+        terms,
+        modulus,
+        inputs: 0,
+        witnesses: 0,
+        combinations: 0,
+        count: 0,
+        front: 0,
+        back: term_room,
+        input_room: rooms.inputs as usize,
+        witness_room: rooms.witnesses as usize,
+        term_room,
+        row_room,
+    })
+}
+
 // Three slices, since the memory of a system is lent.
 /// Opens an empty system over lent words, if no room is above 65,536 and the words are enough for the rooms.
 pub fn open<'a, F: Field>(
@@ -76,46 +118,34 @@ pub fn open<'a, F: Field>(
 ) -> Result<Valued<'a, F>, OpenFault>
     ensures { MatchResult result (Opened F.Field.modulus rooms values.old terms.old rows.old) (λ e. opening rooms (length values.old) (length terms.old) (length rows.old) ≡ some e) }
 {
-    if rooms.inputs > 65536
-        || rooms.witnesses > 65536
-        || rooms.terms > 65536
-        || rooms.rows > 65536
-    {
+    if !small(rooms) {
         return Err(OpenFault::RoomTooLarge);
     }
-    let (input_room, witness_room, term_room, row_room) = (
-        rooms.inputs as usize,
-        rooms.witnesses as usize,
-        rooms.terms as usize,
-        rooms.rows as usize,
-    );
-    if values.len() < input_room + witness_room {
+    if values.len() < rooms.inputs as usize + rooms.witnesses as usize {
         return Err(OpenFault::ShortValues);
     }
-    if terms.len() < 2 * term_room {
-        return Err(OpenFault::ShortTerms);
-    }
-    if rows.len() < 6 * row_room {
-        return Err(OpenFault::ShortRows);
-    }
-    let modulus = F::characteristic();
+    let store = lay(F::characteristic(), rooms, terms, rows)?;
     Ok(Valued {
-        store: Store {
-            rows,
-            terms,
-            modulus,
-            inputs: 0,
-            witnesses: 0,
-            combinations: 0,
-            count: 0,
-            front: 0,
-            back: term_room,
-            input_room,
-            witness_room,
-            term_room,
-            row_room,
-        },
+        store,
         values,
+        of: PhantomData,
+    })
+}
+
+/// Opens an empty system that keeps no values over lent words, if no room is above 65,536 and the words are enough for the rooms.
+pub fn open_setup<'a, F: Field>(
+    rooms: Rooms,
+    terms: &'a mut [u32],
+    rows: &'a mut [u32],
+) -> Result<Setup<'a, F>, OpenFault>
+    ensures { MatchResult result (SetupOpened F.Field.modulus rooms terms.old rows.old) (λ e. opening_setup rooms (length terms.old) (length rows.old) ≡ some e) }
+{
+    if !small(rooms) {
+        return Err(OpenFault::RoomTooLarge);
+    }
+    let store = lay(F::characteristic(), rooms, terms, rows)?;
+    Ok(Setup {
+        store,
         of: PhantomData,
     })
 }

@@ -1,8 +1,14 @@
-ghost use Rattle.std.specs.Prelude.{◌≡◌, ℕ, ◌+◌, ◌-◌, ◌*◌, ◌<◌, ◌≤◌, length, nat_le};
+ghost use Rattle.std.specs.Prelude.{◌≡◌, ℕ, ◌+◌, ◌-◌, ◌*◌, ◌<◌, ◌≤◌, length, nat_le, List, MatchResult};
+ghost use Rattle.relations.specs.declared.term.Variable.TheVariants.{Combination};
 ghost use Rattle.words.specs.Words.{LcFits, PartsFit};
-ghost use Rattle.systems.specs.Stores.{LcAdded, RowAdded};
+ghost use Rattle.systems.specs.Held.{at_side};
+ghost use Rattle.systems.specs.Stores.{beside, bare, Laid, LcAdded, RowAdded};
+ghost use Rattle.systems.specs.Adding.{side_variable, with_side, RowTaken, RowRefused, StoreCut, CutRefused};
 ghost use Rattle.systems.specs.Outline.{place};
 
+use crate::laid::Ends;
+use crate::rooms::Counts;
+use relations::{Mark, Side, SystemFault, Term, Variable};
 use words::merge::{HandedRow, Merged, Sizes};
 
 /// One of the three sums of a row: the product of A and B is C.
@@ -52,24 +58,59 @@ pub(crate) fn place(row: usize, part: Part) -> usize
     }
 }
 
+/// Spends a mark.
+pub(crate) fn spend(mark: Mark) {
+    let Mark {
+        inputs: _,
+        witnesses: _,
+        combinations: _,
+        rows: _,
+    } = mark;
+}
+
+// What changes a store. That its words are well laid is an invariant of the systems over it, which say besides what is kept beside it.
 impl<'a> Store<'a> {
+    // Counts one more variable on a side that has room for it.
+    pub(crate) fn add_variable(&mut self, side: Side) -> Variable
+        requires room { (at_side (bare self.old) side).0 < (at_side (bare self.old) side).1 }
+        requires limit { (at_side (bare self.old) side).1 ≤ 65536 }
+        ensures names { result ≡ side_variable (bare self.old) side }
+        ensures counts { (us ws : List ℕ) → beside self.new ws ≡ with_side side (beside self.old us) ws }
+    {
+        // Two arms, since the two counts are two fields.
+        match side {
+            Side::Input => {
+                let n = self.inputs;
+                self.inputs = n + 1;
+                Variable::Input(n as u32)
+            }
+            Side::Witness => {
+                let n = self.witnesses;
+                self.witnesses = n + 1;
+                Variable::Witness(n as u32)
+            }
+        }
+    }
+
     // What is added carries its modulus, which is that of the store: it is built before it is known whether there is room.
 
     // Writes a combination of n terms with its kept value after the last one.
-    pub(crate) fn add_combination(&mut self, terms: Merged, n: usize, kept: u32)
+    pub(crate) fn add_combination(&mut self, terms: Merged, n: usize, kept: u32) -> Variable
         requires fits { LcFits terms.modulus self.old.front n kept terms.terms.now self.old.terms.now }
         requires few { self.old.combinations ≤ 65536 }
         requires modulus { terms.modulus ≡ self.old.modulus }
-        ensures { LcAdded n kept terms.entry.terms.now self.old self.new }
+        ensures names { result ≡ Combination (self.old.front + n) }
+        ensures added { LcAdded n kept terms.entry.terms.now self.old self.new }
     {
         let (front, combinations) = (self.front, self.combinations);
         terms.write_combination(self.terms, front, n, kept);
         self.front = front + n + 1;
         self.combinations = combinations + 1;
+        Variable::Combination((front + n) as u32)
     }
 
     // Writes a row whose parts have these sizes after the last one.
-    pub(crate) fn add_row(&mut self, row: HandedRow, sizes: Sizes)
+    fn add_row(&mut self, row: HandedRow, sizes: Sizes)
         requires parts { PartsFit row.modulus self.old.back sizes.a sizes.b sizes.c row.a.now row.b.now row.c.now self.old.terms.now }
         requires words { (self.old.count < 65536) × (6 * self.old.count + 6 ≤ length self.old.rows.now) }
         requires modulus { row.modulus ≡ self.old.modulus }
@@ -80,5 +121,48 @@ impl<'a> Store<'a> {
         sizes.write_places(self.rows, count, back);
         self.back = back - sizes.a - sizes.b - sizes.c;
         self.count = count + 1;
+    }
+
+    // Adds a row, if its variables are there, its terms find room, and there is room for one more.
+    pub(crate) fn enforce(&mut self, a: &[Term], b: &[Term], c: &[Term]) -> Result<(), SystemFault>
+        requires { Laid self.old }
+        ensures { MatchResult result (λ _. RowTaken a.now b.now c.now self.old self.new) (RowRefused a.now b.now c.now self.old self.new) }
+    {
+        let modulus = self.modulus;
+        let row = HandedRow { modulus, a, b, c };
+        let sizes = self.sizes(row)?;
+        if self.count >= self.row_room {
+            return Err(SystemFault::RowsFull);
+        }
+        self.add_row(row, sizes);
+        Ok(())
+    }
+
+    // Cuts the lists to the lengths of a mark, unless that is refused.
+    pub(crate) fn rewind(&mut self, mark: Mark) -> Result<(), SystemFault>
+        requires { Laid self.old }
+        ensures { MatchResult result (λ _. StoreCut mark.inputs mark.witnesses mark.combinations mark.rows self.old self.new) (CutRefused mark.inputs mark.witnesses mark.combinations mark.rows self.old self.new) }
+    {
+        // Taken apart here, and by no `From`: a mark is spent by its system alone.
+        let Mark {
+            inputs,
+            witnesses,
+            combinations,
+            rows,
+        } = mark;
+        let to = Counts {
+            inputs: inputs as usize,
+            witnesses: witnesses as usize,
+            combinations: combinations as usize,
+            rows: rows as usize,
+        };
+        let Ends { front, back } = self.cut(to)?;
+        self.inputs = to.inputs;
+        self.witnesses = to.witnesses;
+        self.combinations = to.combinations;
+        self.count = to.rows;
+        self.front = front;
+        self.back = back;
+        Ok(())
     }
 }

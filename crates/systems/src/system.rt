@@ -2,12 +2,11 @@ ghost use Rattle.std.specs.Option.{option_map};
 ghost use Rattle.relations.specs.Meaning.{Ran, new_variable, Adds, Leaves};
 ghost use Rattle.systems.specs.Held.{meant_by, stored_by};
 
-use crate::reading::Ends;
-use crate::rooms::Counts;
+use crate::store::spend;
 use crate::valued::Valued;
 use field::Field;
 use relations::{Mark, Side, System, SystemFault, Term, Variable};
-use words::merge::{HandedRow, Merged};
+use words::merge::Merged;
 
 impl<'a, F: Field> System<F> for Valued<'a, F> {
     ghost meaning = { meant_by };
@@ -22,43 +21,24 @@ impl<'a, F: Field> System<F> for Valued<'a, F> {
         ensures adds { Adds meant_by stored_by (λ s. Unit {0}) self.old self.new }
         ensures leaves { Leaves result (stored_by self.old) (stored_by self.new) }
     {
-        let (n, room, full) = self.side(side);
+        let (n, room, full) = self.store.side(side);
         if n >= room {
             return Err(full);
         }
         let Some(x) = value else {
             return Err(SystemFault::MissingValue);
         };
-        let number = x.to_number();
-        // Two arms, since the two counts are two fields.
-        match side {
-            Side::Input => {
-                self.values[n] = number;
-                self.store.inputs = n + 1;
-                Ok(Variable::Input(n as u32))
-            }
-            Side::Witness => {
-                let at = self.store.input_room + n;
-                self.values[at] = number;
-                self.store.witnesses = n + 1;
-                Ok(Variable::Witness(n as u32))
-            }
-        }
+        let at = self.store.next_word(side);
+        self.values[at] = x.to_number();
+        Ok(self.store.add_variable(side))
     }
 
     fn new_lc(&mut self, terms: &[Term]) -> Result<Variable, SystemFault> {
-        let (front, modulus) = (self.store.front, self.store.modulus);
-        if !self.has_all(terms) {
-            return Err(SystemFault::UnknownVariable);
-        }
+        let modulus = self.store.modulus;
         let sum = Merged { modulus, terms };
-        let n = sum.len();
-        if n >= self.store.back - front {
-            return Err(SystemFault::TermsFull);
-        }
+        let n = self.store.size(sum)?;
         let kept = self.worth(terms);
-        self.store.add_combination(sum, n, kept);
-        Ok(Variable::Combination((front + n) as u32))
+        Ok(self.store.add_combination(sum, n, kept))
     }
 
     fn enforce_constraint(
@@ -67,24 +47,15 @@ impl<'a, F: Field> System<F> for Valued<'a, F> {
         b: &[Term],
         c: &[Term],
     ) -> Result<(), SystemFault> {
-        let modulus = self.store.modulus;
-        let row = HandedRow { modulus, a, b, c };
-        let sizes = self.sizes(row)?;
-        if self.store.count >= self.store.row_room {
-            return Err(SystemFault::RowsFull);
-        }
-        self.store.add_row(row, sizes);
-        Ok(())
+        self.store.enforce(a, b, c)
     }
 
     fn admits(&self, a: &[Term], b: &[Term], c: &[Term]) -> Result<(), SystemFault> {
-        let modulus = self.store.modulus;
-        let row = HandedRow { modulus, a, b, c };
-        self.sizes(row).map(|_| ())
+        self.store.admits(a, b, c)
     }
 
     fn value(&self, variable: Variable) -> Result<Option<F>, SystemFault> {
-        if !self.has(variable) {
+        if !self.store.has(variable) {
             return Err(SystemFault::UnknownVariable);
         }
         match variable {
@@ -107,44 +78,14 @@ impl<'a, F: Field> System<F> for Valued<'a, F> {
     }
 
     fn mark(&self) -> Mark {
-        Mark {
-            inputs: self.store.inputs as u32,
-            witnesses: self.store.witnesses as u32,
-            combinations: self.store.combinations as u32,
-            rows: self.store.count as u32,
-        }
+        self.store.mark()
     }
 
     fn keep(&mut self, mark: Mark) {
-        let Mark {
-            inputs: _,
-            witnesses: _,
-            combinations: _,
-            rows: _,
-        } = mark;
+        spend(mark);
     }
 
     fn rewind(&mut self, mark: Mark) -> Result<(), SystemFault> {
-        // Taken apart here, and by no `From`: a mark is spent by its system alone.
-        let Mark {
-            inputs,
-            witnesses,
-            combinations,
-            rows,
-        } = mark;
-        let to = Counts {
-            inputs: inputs as usize,
-            witnesses: witnesses as usize,
-            combinations: combinations as usize,
-            rows: rows as usize,
-        };
-        let Ends { front, back } = self.cut(to)?;
-        self.store.inputs = to.inputs;
-        self.store.witnesses = to.witnesses;
-        self.store.combinations = to.combinations;
-        self.store.count = to.rows;
-        self.store.front = front;
-        self.store.back = back;
-        Ok(())
+        self.store.rewind(mark)
     }
 }

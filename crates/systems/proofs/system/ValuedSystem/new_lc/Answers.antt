@@ -1,63 +1,45 @@
-use Rattle.std.proofs.Common.{ℕ, ◌+◌, ◌-◌, ◌<◌, ◌≤◌, Ok, Err, refl, sym, ap, ◌∙◌, subst, arith}
-use Rattle.relations.specs.declared.term.Variable.TheVariants.{Combination}
-use Rattle.relations.specs.declared.fault.SystemFault.TheVariants.{UnknownVariable, TermsFull}
+use Rattle.std.proofs.Common.{◌≡◌, ℕ, Ok, Err, refl, sym, ap, ◌∙◌, subst, rules}
 use Rattle.relations.specs.Meaning.{new_lc}
-use Rattle.words.specs.State.{State, with_lc}
-use Rattle.words.proofs.Areas.{chain_count}
-use Rattle.systems.specs.Held.{state}
-use Rattle.systems.specs.Order.{Ordered}
-use Rattle.systems.specs.Stores.{beside}
-use Rattle.systems.proofs.Views.{has_small}
-use Rattle.systems.proofs.Grown.{Done, moved}
-use Rattle.systems.proofs.Order.{lc_ordered}
-use Rattle.systems.proofs.Calls.{lc_unknown, lc_full, lc_new}
+use Rattle.systems.specs.Held.{state, meant_by}
+use Rattle.systems.specs.Stores.{beside, bare, zeros}
+use Rattle.systems.proofs.Grown.{Done}
+use Rattle.systems.proofs.Calls.{lc_fits, few_lcs}
+use Rattle.systems.proofs.Besides.{bare_fit, known_beside, Called, lc_called, lc_barred}
 use Rattle.systems.proofs.system.ValuedSystem.new_lc.Goals as goal
 
-pub returns-then-not-has_all : goal.returns-then-not-has_all
-returns-then-not-has_all g c =
-    let s = state c.args.self.now in
-    let d : Done (new_lc g.F.Field.modulus c.args.terms.now) s (Err UnknownVariable) s =
-    subst (λ (p : ℕ). Done (new_lc p c.args.terms.now) s (Err UnknownVariable) s) c.args.self.now.prime (lc_unknown s c.args.terms.now c.args.self.now.fit c.if-not-has_all.ensures) in
-    record { does = d.does; adds = record { words = d.adds; knowing = λ h. h }; leaves = d.leaves }
+pub size-requires-clause-laid : goal.size-requires-clause-laid
+size-requires-clause-laid g c = bare_fit c.args.self.now.store c.args.self.now.values.now c.args.self.now.fit
 
-pub returns-then-n-self : goal.returns-then-n-self
-returns-then-n-self g c =
-    let s = state c.args.self.now in
-    let d : Done (new_lc g.F.Field.modulus c.args.terms.now) s (Err TermsFull) s =
-    subst (λ (p : ℕ). Done (new_lc p c.args.terms.now) s (Err TermsFull) s) c.args.self.now.prime (lc_full s c.args.terms.now c.len-n.result c.args.self.now.fit c.if-not-has_all.ensures c.len-n.ensures c.if-n-self.true) in
-    record { does = d.does; adds = record { words = d.adds; knowing = λ h. h }; leaves = d.leaves }
+pub returns-in_err-n-clause-does : goal.returns-in_err-n-clause-does
+returns-in_err-n-clause-does g c =
+    let v = c.args.self.now in
+    let e = c.in_err-n.field-0.0 in
+    let is : c.from_residual.result ≡ Err e = search rules in
+    let d : Done (new_lc g.F.Field.modulus c.args.terms.now) (state v) (Err e) (state v) =
+    subst (λ (p : ℕ). Done (new_lc p c.args.terms.now) (state v) (Err e) (state v)) v.prime (lc_barred v.store v.values.now c.args.terms.now e v.fit c.in_err-n.ensures)
+    in
+    d.does ∙ ap (λ r. (r, meant_by v)) (sym is)
+
+pub worth-kept-requires : goal.worth-kept-requires
+worth-kept-requires g c = known_beside c.args.self.now.store (zeros 131072) c.args.self.now.values.now c.args.terms.now c.in_ok-n.ensures.known
 
 pub add_combination-requires : goal.add_combination-requires
 add_combination-requires g c =
-    let s = state c.args.self.now in
-    let few : s.lcs ≤ s.front = chain_count _ _ _ c.args.self.now.fit.chain in
-    let h : c.len-n.result < s.back - s.front = c.if-n-self.false in
-    record {
-      fits = record { modulus = c.args.self.now.fit.modulus; long = c.len-n.ensures; limit = omega (arith, c.args.self.now.fit.back_in, c.args.self.now.fit.term_limit); words = omega (arith, c.args.self.now.fit.back_in, c.args.self.now.fit.terms_long); small = has_small s c.args.terms.now c.args.self.now.fit (sym c.if-not-has_all.ensures) };
-      few = omega (arith, c.args.self.now.fit.terms_in, c.args.self.now.fit.back_in, c.args.self.now.fit.term_limit);
-      modulus = refl;
-    }
+    let v = c.args.self.now in
+    let f = bare_fit v.store v.values.now v.fit in
+    record { fits = lc_fits (bare v.store) c.args.terms.now c.in_ok-n.n c.worth-kept.result f c.in_ok-n.ensures; few = few_lcs (bare v.store) f; modulus = refl }
 
 pub invariant_of-self : goal.invariant_of-self
 invariant_of-self g c =
-    let s = state c.args.self.now in
-    let n = c.len-n.result in
-    let x = c.add_combination.ensures in
-    let d : Done (new_lc g.F.Field.modulus c.args.terms.now) s (Ok (Combination (s.front + n))) (beside c.add_combination.new.self c.args.self.now.values.now) =
-    moved (λ p. new_lc p c.args.terms.now) g.F.Field.modulus s (beside c.add_combination.new.self c.args.self.now.values.now) (with_lc s n c.add_combination.new.self.terms.now) (Ok (Combination (s.front + n))) c.args.self.now.prime (x.rest c.args.self.now.values.now)
-    (lc_new s c.args.terms.now n c.worth-kept.result c.add_combination.new.self.terms.now c.args.self.now.fit c.if-not-has_all.ensures c.len-n.ensures c.if-n-self.false c.worth-kept.ensures.is c.worth-kept.ensures.below x.long x.written) in
-    record {
-      prime = ap (λ (t : State). t.modulus) (x.rest c.args.self.now.values.now) ∙ c.args.self.now.prime;
-      fit = d.fit;
-      ordered = subst Ordered (sym (x.rest c.args.self.now.values.now)) (lc_ordered s c.args.terms.now n c.worth-kept.result c.add_combination.new.self.terms.now c.args.self.now.fit c.if-not-has_all.ensures c.if-n-self.false x.written c.args.self.now.ordered);
-    }
+    let v = c.args.self.now in
+    let d = lc_called v.store c.add_combination.new.self v.values.now c.args.terms.now c.in_ok-n.n c.worth-kept.result c.add_combination.result v.fit v.ordered c.in_ok-n.ensures c.worth-kept.ensures.is c.worth-kept.ensures.below c.add_combination.ensures.names c.add_combination.ensures.added in
+    record { prime = d.modulus ∙ v.prime; fit = d.done.fit; ordered = d.ordered }
 
 pub returns : goal.returns
 returns g c =
-    let s = state c.args.self.now in
-    let n = c.len-n.result in
-    let x = c.add_combination.ensures in
-    let d : Done (new_lc g.F.Field.modulus c.args.terms.now) s (Ok (Combination (s.front + n))) (beside c.add_combination.new.self c.args.self.now.values.now) =
-    moved (λ p. new_lc p c.args.terms.now) g.F.Field.modulus s (beside c.add_combination.new.self c.args.self.now.values.now) (with_lc s n c.add_combination.new.self.terms.now) (Ok (Combination (s.front + n))) c.args.self.now.prime (x.rest c.args.self.now.values.now)
-    (lc_new s c.args.terms.now n c.worth-kept.result c.add_combination.new.self.terms.now c.args.self.now.fit c.if-not-has_all.ensures c.len-n.ensures c.if-n-self.false c.worth-kept.ensures.is c.worth-kept.ensures.below x.long x.written) in
-    record { does = d.does; adds = record { words = d.adds; knowing = λ h. h }; leaves = d.leaves }
+    let v = c.args.self.now in
+    let d : Called (new_lc g.F.Field.modulus c.args.terms.now) (state v) (Ok c.add_combination.result) (beside c.add_combination.new.self v.values.now) =
+    subst (λ (p : ℕ). Called (new_lc p c.args.terms.now) (state v) (Ok c.add_combination.result) (beside c.add_combination.new.self v.values.now)) v.prime
+    (lc_called v.store c.add_combination.new.self v.values.now c.args.terms.now c.in_ok-n.n c.worth-kept.result c.add_combination.result v.fit v.ordered c.in_ok-n.ensures c.worth-kept.ensures.is c.worth-kept.ensures.below c.add_combination.ensures.names c.add_combination.ensures.added)
+    in
+    record { does = d.done.does; adds = record { words = d.done.adds; knowing = λ h. h }; leaves = d.done.leaves }

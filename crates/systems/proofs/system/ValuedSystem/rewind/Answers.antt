@@ -1,18 +1,20 @@
-use Rattle.systems.specs.Held.{state}
-use Rattle.systems.proofs.Rewinds.{done}
-use Rattle.systems.proofs.Order.{cut_ordered}
+use Rattle.std.proofs.Common.{◌∙◌}
+use Rattle.systems.proofs.Besides.{bare_fit, rewind_called}
 use Rattle.systems.proofs.system.ValuedSystem.rewind.Goals as goal
+
+pub rewind-requires : goal.rewind-requires
+rewind-requires g c = bare_fit c.args.self.now.store c.args.self.now.values.now c.args.self.now.fit
 
 pub invariant_of-self : goal.invariant_of-self
 invariant_of-self g c =
-    let d = done (state c.args.self.now) c.args.mark.inputs c.args.mark.witnesses c.args.mark.combinations c.args.mark.rows c.in_ok-front.field-0.front c.in_ok-front.field-0.back c.args.self.now.fit c.in_ok-front.ensures in
-    record {
-      prime = c.args.self.now.prime;
-      fit = d.fit;
-      ordered = cut_ordered (state c.args.self.now) c.args.mark.inputs c.args.mark.witnesses c.args.mark.combinations c.args.mark.rows c.in_ok-front.field-0.front c.in_ok-front.field-0.back c.in_ok-front.ensures c.args.self.now.ordered;
-    }
+    let v = c.args.self.now in
+    let m = c.args.mark in
+    let d = rewind_called v.store c.rewind.new.self v.values.now m.inputs m.witnesses m.combinations m.rows c.rewind.result v.fit v.ordered c.rewind.ensures in
+    record { prime = d.modulus ∙ v.prime; fit = d.rewound.fit; ordered = d.ordered }
 
 pub returns : goal.returns
 returns g c =
-    let d = done (state c.args.self.now) c.args.mark.inputs c.args.mark.witnesses c.args.mark.combinations c.args.mark.rows c.in_ok-front.field-0.front c.in_ok-front.field-0.back c.args.self.now.fit c.in_ok-front.ensures in
-    record { does = d.does; cuts = d.cuts; knowing = λ h. h }
+    let v = c.args.self.now in
+    let m = c.args.mark in
+    let d = rewind_called v.store c.rewind.new.self v.values.now m.inputs m.witnesses m.combinations m.rows c.rewind.result v.fit v.ordered c.rewind.ensures in
+    record { does = d.rewound.does; cuts = d.rewound.cuts; knowing = λ h. h }

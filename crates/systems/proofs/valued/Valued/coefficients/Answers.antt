@@ -1,38 +1,31 @@
-use Rattle.std.proofs.Common.{◌≡◌, ℕ, ◌<◌, ◌≤◌, length, Err, sym, ap, ◌∙◌, subst, leb-false, leb-true, rules}
-use Rattle.written.specs.declared.Counts.{Counts}
-use Rattle.written.specs.Cells.{cells}
-use Rattle.systems.specs.declared.rooms.OutlineFault.TheVariants.{TooShort}
+use Rattle.std.proofs.Common.{ℕ, length, OnOk, sym, ap, ◌∙◌, subst}
 use Rattle.systems.specs.Held.{state, meant_by}
-use Rattle.systems.specs.Outline.{row_sum, coefficients, KeepsValue}
-use Rattle.systems.proofs.Outline.{Outlined, part_lies_read, outlined_read, no_such_row, too_short, written_out_fits}
+use Rattle.systems.specs.Stores.{zeros}
+use Rattle.systems.specs.Outline.{working, outlining, row_sum, coefficients, KeepsValue}
+use Rattle.systems.proofs.Views.{rows_long}
+use Rattle.systems.proofs.Outline.{Outlined}
+use Rattle.systems.proofs.Besides.{bare_fit, part_beside}
+use Rattle.systems.proofs.Coefficients.{on_ok, outlined_so}
 use Rattle.systems.proofs.valued.Valued.coefficients.Goals as goal
 
-pub returns-then-row-self-clause-done : goal.returns-then-row-self-clause-done
-returns-then-row-self-clause-done g c = no_such_row (state c.args.self.now) c.args.row (length c.args.out.now) c.if-row-self.true
-
 pub write_out-requires : goal.write_out-requires
-write_out-requires g c =
-    let which = c.args.part in
-    part_lies_read (state c.args.self.now) which c.args.row c.place-at.result c.writer.result.terms.now c.place-at.ensures c.writer.ensures.terms c.args.self.now.fit c.if-row-self.false
-
-pub returns-in_err-write_out-clause-done : goal.returns-in_err-write_out-clause-done
-returns-in_err-write_out-clause-done g c =
-    let l : length c.args.out.now < cells c.writer.result.counts = leb-false _ _ (sym c.in_err-write_out.ensures.room) in
-    let is : c.from_residual.result ≡ Err TooShort = search rules in
-    is ∙ too_short (state c.args.self.now) c.args.row (length c.args.out.now) c.if-row-self.false (subst (λ (n : Counts). length c.args.out.now < cells n) c.writer.ensures.counts l)
+write_out-requires g c = bare_fit c.args.self.now.store c.args.self.now.values.now c.args.self.now.fit
 
 pub returns : goal.returns
 returns g c =
-    let s = state c.args.self.now in
+    let v = c.args.self.now in
+    let s = state v in
+    let r = c.write_out.result in
+    let i = c.args.row in
     let which = c.args.part in
-    let l : cells c.writer.result.counts ≤ length c.args.out.now = leb-true _ _ (sym c.in_ok-write_out.ensures.room) in
-    let o : Outlined s which c.args.row c.args.out.now c.write_out.new.out =
-    outlined_read s which c.args.row c.place-at.result c.writer.result c.args.out.now c.write_out.new.out c.place-at.ensures c.writer.ensures c.args.self.now.fit c.args.self.now.ordered c.if-row-self.false c.write_out.auto.out l c.in_ok-write_out.ensures.written c.in_ok-write_out.ensures.keeps
-    in
+    let os = c.args.out.now in
+    let qs = c.write_out.new.out in
+    let e = c.write_out.ensures in
+    let o : OnOk r (Outlined s which i os qs) = outlined_so s which i os qs r v.fit v.ordered e.done (on_ok r (part_beside v.store (zeros 131072) v.values.now which i os qs) e.written) in
     record {
-      done = written_out_fits s c.args.row (length c.args.out.now) c.if-row-self.false (subst (λ (n : Counts). cells n ≤ length c.args.out.now) c.writer.ensures.counts l);
-      refused = tt;
-      written = o.written ∙ ap (λ (p : ℕ). coefficients p (meant_by c.args.self.now) (row_sum which c.args.row (meant_by c.args.self.now))) c.args.self.now.prime;
-      keeps = subst (λ (p : ℕ). KeepsValue p (meant_by c.args.self.now) (row_sum which c.args.row (meant_by c.args.self.now)) c.write_out.new.out) c.args.self.now.prime o.keeps;
-      beyond = o.beyond;
+      done = e.done ∙ ap (λ (n : ℕ). outlining n (working s) i (length os)) (sym (rows_long s));
+      refused = e.refused;
+      written = on_ok r (λ (o : Outlined s which i os qs). o.written ∙ ap (λ (p : ℕ). coefficients p (meant_by v) (row_sum which i (meant_by v))) v.prime) o;
+      keeps = on_ok r (λ (o : Outlined s which i os qs). subst (λ (p : ℕ). KeepsValue p (meant_by v) (row_sum which i (meant_by v)) qs) v.prime o.keeps) o;
+      beyond = on_ok r (λ (o : Outlined s which i os qs). o.beyond) o;
     }

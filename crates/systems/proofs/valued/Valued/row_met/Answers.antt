@@ -1,6 +1,7 @@
 use Rattle.std.proofs.Common.{ℕ, eqb, ap, ◌∙◌}
 use Rattle.systems.specs.Held.{state}
 use Rattle.systems.proofs.Readers.{named_in, row_named, worth_in}
+use Rattle.systems.proofs.Besides.{bare_fit}
 use Rattle.systems.proofs.Verdicts.{met_is}
 use Rattle.systems.proofs.valued.Valued.row_met.Goals as goal
 
@@ -29,3 +30,6 @@ returns g c =
     let b = worth_in s r.result _ _ c.worth_stored-b.result f r.ensures c.row-row.ensures.b named.1 c.worth_stored-b.ensures in
     let k = worth_in s r.result _ _ c.worth_stored.result f r.ensures c.row-row.ensures.c named.2 c.worth_stored.ensures in
     ap (λ (x : ℕ). eqb x c.worth_stored.result) c.multiply_add.ensures ∙ met_is s.modulus c.worth_stored-a.result c.worth_stored-b.result c.worth_stored.result _ _ _ a b k
+
+pub row-row-requires-clause-laid : goal.row-row-requires-clause-laid
+row-row-requires-clause-laid g c = bare_fit c.args.self.now.store c.args.self.now.values.now c.args.self.now.fit

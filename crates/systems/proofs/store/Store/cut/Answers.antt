@@ -1,13 +1,13 @@
 use Rattle.std.proofs.Common.{◌≡◌, true, false, refl, sym, ◌∙◌}
 use Rattle.words.specs.Words.{combinations, lists_in, rows, triples_in}
-use Rattle.systems.specs.Held.{state}
+use Rattle.systems.specs.Stores.{bare}
 use Rattle.systems.proofs.Rewinds.{long_inputs, long_witnesses, long_lcs, long_rows, names_cut, verdict, Firsts, firsts}
-use Rattle.systems.proofs.valued.Valued.cut.Goals.{then-to-self-via-then-to-self, then-to-self-via-else-to-self+then-to-self-2, then-to-self-via-else-to-self+else-to-self-2+then-to-self-3, then-to-self-via-else-to-self+else-to-self-2+else-to-self-3+then-to-self-4, then-not-has_combinations-via-then-not-has_combinations, then-not-has_combinations-via-else-not-has_combinations+then-not-has_rows}
-use Rattle.systems.proofs.valued.Valued.cut.Goals as goal
+use Rattle.systems.proofs.store.Store.cut.Goals.{then-to-self-via-then-to-self, then-to-self-via-else-to-self+then-to-self-2, then-to-self-via-else-to-self+else-to-self-2+then-to-self-3, then-to-self-via-else-to-self+else-to-self-2+else-to-self-3+then-to-self-4, then-not-has_combinations-via-then-not-has_combinations, then-not-has_combinations-via-else-not-has_combinations+then-not-has_rows}
+use Rattle.systems.proofs.store.Store.cut.Goals as goal
 
 pub returns-then-to-self : goal.returns-then-to-self
-returns-then-to-self g c =
-    let s = state c.args.self.now in
+returns-then-to-self c =
+    let s = bare c.args.self.now in
     let t = c.args.to in (
       refl,
       elim c.then-to-self.branch [
@@ -19,12 +19,12 @@ returns-then-to-self g c =
     )
 
 pub returns-then-not-has_combinations : goal.returns-then-not-has_combinations
-returns-then-not-has_combinations g c =
-    let s = state c.args.self.now in
+returns-then-not-has_combinations c =
+    let s = bare c.args.self.now in
     let t = c.args.to in
     let d = c.first-combinations in
     let w = c.rows-rows.ensures in
-    let first : Firsts s t.combinations d.result.end = firsts s c.combinations.result d.result t.combinations c.args.self.now.fit c.combinations.ensures d.ensures.count d.ensures.words d.ensures.low d.ensures.tagged d.ensures.cut in
+    let first : Firsts s t.combinations d.result.end = firsts s c.combinations.result d.result t.combinations c.requires c.combinations.ensures d.ensures.count d.ensures.words d.ensures.low d.ensures.tagged d.ensures.cut in
     let listed : lists_in t.inputs t.witnesses d.result.end (combinations d.result.left d.result.end d.result.words.now) ≡ lists_in t.inputs t.witnesses d.result.end (combinations t.combinations d.result.end s.term_words) = (λ i. lists_in t.inputs t.witnesses d.result.end (combinations (d.ensures.count i) d.result.end ((d.ensures.words ∙ c.combinations.ensures.words) i))) in
     let rowed : triples_in t.inputs t.witnesses d.result.end (rows t.rows c.rows-rows.result.words.now c.rows-rows.result.terms.now) ≡ triples_in t.inputs t.witnesses d.result.end (rows t.rows s.row_words s.term_words) = (λ i. triples_in t.inputs t.witnesses d.result.end (rows t.rows (w.words i) (w.terms i))) in (
       refl,
@@ -35,12 +35,12 @@ returns-then-not-has_combinations g c =
     )
 
 pub returns : goal.returns
-returns g c =
-    let s = state c.args.self.now in
+returns c =
+    let s = bare c.args.self.now in
     let t = c.args.to in
     let d = c.first-combinations in
     let w = c.rows-rows.ensures in
-    let first : Firsts s t.combinations d.result.end = firsts s c.combinations.result d.result t.combinations c.args.self.now.fit c.combinations.ensures d.ensures.count d.ensures.words d.ensures.low d.ensures.tagged d.ensures.cut in
+    let first : Firsts s t.combinations d.result.end = firsts s c.combinations.result d.result t.combinations c.requires c.combinations.ensures d.ensures.count d.ensures.words d.ensures.low d.ensures.tagged d.ensures.cut in
     let listed : lists_in t.inputs t.witnesses d.result.end (combinations d.result.left d.result.end d.result.words.now) ≡ lists_in t.inputs t.witnesses d.result.end (combinations t.combinations d.result.end s.term_words) = (λ i. lists_in t.inputs t.witnesses d.result.end (combinations (d.ensures.count i) d.result.end ((d.ensures.words ∙ c.combinations.ensures.words) i))) in
     let rowed : triples_in t.inputs t.witnesses d.result.end (rows t.rows c.rows-rows.result.words.now c.rows-rows.result.terms.now) ≡ triples_in t.inputs t.witnesses d.result.end (rows t.rows s.row_words s.term_words) = (λ i. triples_in t.inputs t.witnesses d.result.end (rows t.rows (w.words i) (w.terms i))) in
     let named = c.if-not-has_combinations.ensures ∙ listed in
