@@ -14,3 +14,4 @@ pub mod Besides
 pub mod Shown
 pub mod Coefficients
 pub mod Openings
+pub mod Blanks

@@ -5,6 +5,7 @@ pub mod Held
 pub mod Adding
 pub mod Opening
 pub mod Order
+pub mod Blank
 pub mod Outline
 pub mod Verdict
 pub mod Read

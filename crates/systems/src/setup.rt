@@ -1,7 +1,8 @@
 ghost use Rattle.std.specs.Prelude.{◌≡◌};
 ghost use Rattle.words.specs.State.{Fit};
 ghost use Rattle.systems.specs.Order.{Ordered};
-ghost use Rattle.systems.specs.Props.{fit_prop, ordered_prop};
+ghost use Rattle.systems.specs.Blank.{Blank};
+ghost use Rattle.systems.specs.Props.{fit_prop, ordered_prop, blank_prop};
 ghost use Rattle.systems.specs.Stores.{bare};
 
 use crate::store::Store;
@@ -17,4 +18,5 @@ pub struct Setup<'a, F: Field> {
     ghost prime: { store.modulus ≡ F.Field.modulus },
     ghost fit: { Fit (bare store) } by { fit_prop (bare store) },
     ghost ordered: { Ordered (bare store) } by { ordered_prop (bare store) },
+    ghost blank: { Blank (bare store) } by { blank_prop (bare store) },
 }

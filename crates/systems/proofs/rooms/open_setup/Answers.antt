@@ -4,6 +4,7 @@ use Rattle.words.specs.State.{State, Fit, view, words_of}
 use Rattle.systems.specs.Stores.{zeros}
 use Rattle.systems.specs.Forgotten.{forgotten, without}
 use Rattle.systems.specs.Order.{Ordered}
+use Rattle.systems.specs.Blank.{Blank}
 use Rattle.systems.proofs.Besides.{zeros_long}
 use Rattle.systems.proofs.Openings.{small_sides, fresh_fit, fresh_ordered, fresh_words, opens_setup}
 use Rattle.systems.proofs.rooms.open_setup.Goals as goal
@@ -19,6 +20,7 @@ invariant_of-result g c =
       prime = ap (λ (u : State). u.modulus) (o.is (zeros 131072)) ∙ c.characteristic.ensures;
       fit = subst Fit (sym (o.is (zeros 131072))) (fresh_fit p c.args.rooms c.args.terms.now c.args.rows.now (zeros 131072) pos low (sym c.if-not-small.ensures) o.fits long);
       ordered = subst Ordered (sym (o.is (zeros 131072))) (fresh_ordered p c.args.rooms c.args.terms.now c.args.rows.now (zeros 131072));
+      blank = subst Blank (sym (o.is (zeros 131072))) tt;
     }
 
 pub returns : goal.returns

@@ -1,5 +1,6 @@
 use Rattle.std.proofs.Common.{ℕ, ◌∙◌, subst}
 use Rattle.relations.specs.Meaning.{enforce}
+use Rattle.systems.proofs.Blanks.{row_blank}
 use Rattle.systems.proofs.Shown.{Shown, row_shown}
 use Rattle.systems.proofs.setup_calls.SetupSystem.enforce_constraint.Goals as goal
 
@@ -7,7 +8,7 @@ pub invariant_of-self : goal.invariant_of-self
 invariant_of-self g c =
     let v = c.args.self.now in
     let d = row_shown v.store c.enforce.new.self c.args.a.now c.args.b.now c.args.c.now c.enforce.result v.fit v.ordered c.enforce.ensures in
-    record { prime = d.modulus ∙ v.prime; fit = d.fit; ordered = d.ordered }
+    record { prime = d.modulus ∙ v.prime; fit = d.fit; ordered = d.ordered; blank = row_blank v.store c.enforce.new.self c.args.a.now c.args.b.now c.args.c.now c.enforce.result v.fit c.enforce.ensures v.blank }
 
 pub returns : goal.returns
 returns g c =

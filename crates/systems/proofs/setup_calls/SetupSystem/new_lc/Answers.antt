@@ -3,6 +3,7 @@ use Rattle.relations.specs.Meaning.{new_lc}
 use Rattle.systems.specs.Held.{shown_by}
 use Rattle.systems.specs.Stores.{bare}
 use Rattle.systems.proofs.Calls.{lc_fits, few_lcs}
+use Rattle.systems.proofs.Blanks.{lc_blank}
 use Rattle.systems.proofs.Shown.{Shown, lc_shown, lc_hidden}
 use Rattle.systems.proofs.setup_calls.SetupSystem.new_lc.Goals as goal
 
@@ -25,7 +26,7 @@ pub invariant_of-self : goal.invariant_of-self
 invariant_of-self g c =
     let v = c.args.self.now in
     let d = lc_shown v.store c.add_combination.new.self c.args.terms.now c.in_ok-n.n c.add_combination.result v.fit v.ordered c.in_ok-n.ensures c.add_combination.ensures.names c.add_combination.ensures.added in
-    record { prime = d.modulus ∙ v.prime; fit = d.fit; ordered = d.ordered }
+    record { prime = d.modulus ∙ v.prime; fit = d.fit; ordered = d.ordered; blank = lc_blank v.store c.add_combination.new.self c.args.terms.now c.in_ok-n.n v.fit c.add_combination.ensures.added v.blank }
 
 pub returns : goal.returns
 returns g c =

@@ -2,6 +2,7 @@ use Rattle.std.proofs.Common.{Some, ◌∙◌}
 use Rattle.std.specs.Option.{option_map}
 use Rattle.systems.specs.Stores.{bare}
 use Rattle.systems.proofs.Variables.{full, room}
+use Rattle.systems.proofs.Blanks.{variable_blank}
 use Rattle.systems.proofs.Shown.{variable_shown, full_shown}
 use Rattle.systems.proofs.setup_calls.SetupSystem.new_variable.Goals as goal
 
@@ -14,7 +15,7 @@ pub invariant_of-self : goal.invariant_of-self
 invariant_of-self g c =
     let v = c.args.self.now in
     let d = variable_shown v.store c.add_variable.new.self c.args.side (Some 0) c.add_variable.result v.fit v.ordered (room (bare v.store) c.args.side c.side-n.result c.side-n.ensures c.if-n-room.false) c.add_variable.ensures.names c.add_variable.ensures.counts in
-    record { prime = d.modulus ∙ v.prime; fit = d.fit; ordered = d.ordered }
+    record { prime = d.modulus ∙ v.prime; fit = d.fit; ordered = d.ordered; blank = variable_blank v.store c.add_variable.new.self c.args.side c.add_variable.ensures.counts v.blank }
 
 pub returns : goal.returns
 returns g c =
