@@ -2,7 +2,7 @@
 // must print stands in the file stdout.
 #![tactic(auto)]
 
-use field::F101;
+use field::{F7, F101, Field};
 use printing::print;
 use std::io;
 use systems::Rooms;
@@ -33,7 +33,8 @@ fn row<'a>(shows: &'a str, rooms: Rooms, places: usize, tape: &'a [u8]) -> Entry
     }
 }
 
-fn show(rt: &HostRuntime, entry: Entry<'_>) -> io::Result<()> {
+/// Prints what a row of the table shows, and the text of its run over a field.
+fn show<F: Field>(rt: &HostRuntime, entry: Entry<'_>) -> io::Result<()> {
     let Entry {
         shows,
         rooms,
@@ -41,7 +42,7 @@ fn show(rt: &HostRuntime, entry: Entry<'_>) -> io::Result<()> {
         tape,
     } = entry;
     println!(rt; "-- {shows}")?;
-    match print::<F101>(rt.alloc(), rooms, places, 4096, tape) {
+    match print::<F>(rt.alloc(), rooms, places, 4096, tape) {
         Ok(text) => rt.print(text),
         Err(_) => println!(rt; "not opened"),
     }
@@ -126,7 +127,118 @@ fn main(rt: HostRuntime) -> io::Result<()> {
         ),
     ];
     for entry in &table {
-        show(&rt, *entry)?;
+        show::<F101>(&rt, *entry)?;
+    }
+    many_bits(&rt)?;
+    as_many_as_the_prime(&rt)
+}
+
+/// Lengths, statements on constants, and statements where the book is full.
+fn many_bits(rt: &HostRuntime) -> io::Result<()> {
+    let table = [
+        row(
+            "a gate of no members, of which none is looked for",
+            ALL,
+            9,
+            &[1, 0, 1, 20, 9, 0, 0],
+        ),
+        row(
+            "members that are not there",
+            ALL,
+            9,
+            &[1, 0, 1, 20, 0, 0, 2],
+        ),
+        row(
+            "too many members, which are not there",
+            ALL,
+            9,
+            &[1, 0, 1, 20, 0, 0, 65],
+        ),
+        row(
+            "a bound of more bits than are given",
+            ALL,
+            9,
+            &[1, 0, 1, 52, 0, 0, 1, 2, 0, 0, 0, 0, 0, 0, 0],
+        ),
+        row(
+            "a bound of 0 on no bits",
+            ALL,
+            9,
+            &[52, 0, 0, 0, 0, 0, 0, 0, 0, 0, 0, 0],
+        ),
+        row(
+            "a statement that constants break",
+            ALL,
+            9,
+            &[1, 0, 1, 1, 0, 0, 26, 0, 0, 1, 0, 0, 0],
+        ),
+        row(
+            "the same where the condition is 0",
+            ALL,
+            9,
+            &[1, 0, 1, 1, 0, 0, 26, 0, 0, 1, 0, 1, 0],
+        ),
+        row(
+            "the same under a variable",
+            ALL,
+            9,
+            &[1, 0, 1, 1, 0, 0, 1, 2, 0, 26, 0, 0, 1, 0, 2, 0],
+        ),
+        row(
+            "a statement with a full book",
+            ALL,
+            1,
+            &[1, 2, 1, 27, 0, 0, 0, 0, 0, 0],
+        ),
+        row(
+            "all of some ones, which are stated not to be",
+            ALL,
+            9,
+            &[1, 0, 1, 23, 0, 0, 1],
+        ),
+        row(
+            "a choice that finds no room for its row",
+            Rooms { rows: 3, ..ALL },
+            9,
+            &[1, 2, 1, 1, 2, 0, 1, 2, 1, 25, 0, 0, 1, 0, 2, 0],
+        ),
+    ];
+    for entry in &table {
+        show::<F101>(rt, *entry)?;
+    }
+    Ok(())
+}
+
+/// Gates of nearly as many members as the field has elements, and of as many.
+fn as_many_as_the_prime(rt: &HostRuntime) -> io::Result<()> {
+    let table = [
+        row(
+            "six members over 7",
+            ALL,
+            9,
+            &[
+                1, 2, 1, 1, 2, 1, 1, 2, 1, 1, 2, 1, 1, 2, 1, 1, 2, 1, 20, 0, 0, 6,
+            ],
+        ),
+        row(
+            "seven members over 7",
+            ALL,
+            9,
+            &[
+                1, 2, 1, 1, 2, 1, 1, 2, 1, 1, 2, 1, 1, 2, 1, 1, 2, 1, 1, 2, 1, 20, 0, 0, 7,
+            ],
+        ),
+        row(
+            "seven constants over 7",
+            ALL,
+            9,
+            &[
+                1, 0, 1, 3, 0, 0, 3, 0, 0, 3, 0, 0, 3, 0, 0, 3, 0, 0, 3, 0, 0, 21, 0, 0, 7,
+            ],
+        ),
+    ];
+    for entry in &table {
+        show::<F7>(rt, *entry)?;
     }
     Ok(())
 }
