@@ -28,15 +28,15 @@ fn opened(rooms: Rooms, terms: &mut [u32], rows: &mut [u32]) -> (u32, u32) {
 
 // Rooms, how many words of terms and of rows are lent, and what opening then answers.
 #[derive(Clone, Copy)]
-struct Opening {
+struct Trial {
     rooms: Rooms,
     terms: usize,
     rows: usize,
     answer: (u32, u32),
 }
 
-const fn case(rooms: Rooms, terms: usize, rows: usize, answer: (u32, u32)) -> Opening {
-    Opening {
+fn over(rooms: Rooms, terms: usize, rows: usize, answer: (u32, u32)) -> Trial {
+    Trial {
         rooms,
         terms,
         rows,
@@ -59,21 +59,21 @@ fn opening(rt: HostRuntime) -> Result<(), Fail> {
         ..FEW
     };
     let tall = Rooms { rows: 65537, ..FEW };
-    let cases = [
-        case(FEW, 10, 6, (0, 0)),
-        case(FEW, 9, 6, (9, 3)),
-        case(FEW, 10, 5, (10, 3)),
-        case(FEW, 9, 5, (9, 3)),
-        case(wide(65536, 65536), 10, 6, (0, 0)),
-        case(wide(65537, 0), 9, 6, (3, 3)),
-        case(wide(0, 65537), 10, 5, (3, 3)),
-        case(many, 10, 6, (3, 3)),
-        case(tall, 10, 6, (3, 3)),
+    let trials = [
+        over(FEW, 10, 6, (0, 0)),
+        over(FEW, 9, 6, (9, 3)),
+        over(FEW, 10, 5, (10, 3)),
+        over(FEW, 9, 5, (9, 3)),
+        over(wide(65536, 65536), 10, 6, (0, 0)),
+        over(wide(65537, 0), 9, 6, (3, 3)),
+        over(wide(0, 65537), 10, 5, (3, 3)),
+        over(many, 10, 6, (3, 3)),
+        over(tall, 10, 6, (3, 3)),
     ];
-    for case in cases {
-        let mut terms = vec![in rt.alloc(); 0; case.terms]?;
-        let mut rows = vec![in rt.alloc(); 0; case.rows]?;
-        assert_eq!(rt; opened(case.rooms, &mut terms, &mut rows), case.answer);
+    for trial in trials {
+        let mut terms = vec![in rt.alloc(); 0; trial.terms]?;
+        let mut rows = vec![in rt.alloc(); 0; trial.rows]?;
+        assert_eq!(rt; opened(trial.rooms, &mut terms, &mut rows), trial.answer);
     }
     Ok(())
 }
