@@ -24,8 +24,9 @@ pub returns : goal.returns
 returns c =
     let s = bare c.args.self.now in
     let l : cells c.writer.result.counts ≤ length c.args.out.now = leb-true _ _ (sym c.in_ok-write_out.ensures.room) in
+    let which = c.args.part in
     record {
       done = written_out_fits s c.args.row (length c.args.out.now) c.if-row-self.false (subst (λ (n : Counts). cells n ≤ length c.args.out.now) c.writer.ensures.counts l);
       refused = tt;
-      written = part_written s c.args.part c.args.row c.place-at.result c.writer.result c.args.out.now c.write_out.new.out c.place-at.ensures c.writer.ensures c.write_out.auto.out c.in_ok-write_out.ensures.written c.in_ok-write_out.ensures.keeps;
+      written = part_written s which c.args.row c.place-at.result c.writer.result c.args.out.now c.write_out.new.out c.place-at.ensures c.writer.ensures c.write_out.auto.out c.in_ok-write_out.ensures.written c.in_ok-write_out.ensures.keeps;
     }
