@@ -102,7 +102,10 @@ fn run_all<F: Field>(rt: &HostRuntime, heap: Global, blocks: &str) -> io::Result
             wrong = wrong.saturating_add(1);
         }
     }
-    println!(rt; "{}: {right} tapes as expected, {wrong} not", F::characteristic())
+    println!(rt;
+        "{}: {right} tapes as expected, {wrong} not",
+        F::characteristic()
+    )
 }
 
 fn main(rt: HostRuntime) -> io::Result<()> {
