@@ -12,28 +12,16 @@ trap 'rm -rf "$work"' EXIT
 cp crates/field_bench/out/field_bench "$work/rattle"
 rustc --edition 2021 -C opt-level=3 -C target-cpu=x86-64-v2 -o "$work/rust" bench/field.rs
 
-# Runs one way once and keeps the least time, in milliseconds; the answers of both programs must agree.
-declare -A least
-once() {
-    local start end took answer
-    start=$(date +%s%N)
-    answer=$("$work/$1" "$2" "$3" "$count")
-    end=$(date +%s%N)
-    took=$(((end - start) / 1000000))
-    if [ -z "${least[$1 $2 $3]-}" ] || [ "$took" -lt "${least[$1 $2 $3]}" ]; then least[$1 $2 $3]=$took; fi
-    if [ -e "$work/$2-$3" ] && [ "$answer" != "$(cat "$work/$2-$3")" ]; then echo "$1 $answer: the other program says otherwise" >&2; exit 1; fi
-    printf '%s\n' "$answer" >"$work/$2-$3"
-}
+. bench/timing.sh
 
 for _ in 1 2 3 4 5 6 7; do
     for shape in chain lanes; do
         for way in plain montgomery; do
-            for program in rattle rust; do once "$program" "$way" "$shape"; done
+            for program in rattle rust; do once "$way $shape" "$program" "$way" "$shape" "$count"; done
         done
     done
 done
 
-ratio() { awk -v a="$1" -v b="$2" 'BEGIN { printf "%.2f", a / b }'; }
 for shape in chain lanes; do
     for program in rattle rust; do
         echo "$shape, $program: plain takes $(ratio "${least[$program plain $shape]}" "${least[$program montgomery $shape]}") times as long as Montgomery"

@@ -11,25 +11,14 @@ trap 'rm -rf "$work"' EXIT
 cp crates/system_bench/out/system_bench "$work/rattle"
 rustc --edition 2021 -C opt-level=3 -C target-cpu=x86-64-v2 -o "$work/rust" bench/system.rs
 
-declare -A least
-once() {
-    local start end took answer
-    start=$(date +%s%N)
-    answer=$("$work/$1" "$2" "$3")
-    end=$(date +%s%N)
-    took=$(((end - start) / 1000000))
-    if [ -z "${least[$1 $2]-}" ] || [ "$took" -lt "${least[$1 $2]}" ]; then least[$1 $2]=$took; fi
-    if [ -e "$work/$2" ] && [ "$answer" != "$(cat "$work/$2")" ]; then echo "$1 $answer: the other program says otherwise" >&2; exit 1; fi
-    printf '%s\n' "$answer" >"$work/$2"
-}
+. bench/timing.sh
 
 for _ in 1 2 3 4 5 6 7; do
     for steps in 2500 5000 10000; do
-        for program in rattle rust; do once "$program" "$steps" $((10000000 / steps)); done
+        for program in rattle rust; do once "$steps" "$program" "$steps" $((10000000 / steps)); done
     done
 done
 
-ratio() { awk -v a="$1" -v b="$2" 'BEGIN { printf "%.2f", a / b }'; }
 for steps in 2500 5000 10000; do
     echo "$steps steps: Rattle takes $(ratio "${least[rattle $steps]}" "${least[rust $steps]}") times as long as Rust; a call takes $(ratio "${least[rattle $steps]}" "${least[rattle 2500]}") times as long as in 2500 steps"
 done
