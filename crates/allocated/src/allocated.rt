@@ -57,7 +57,8 @@ fn gate_value<F: Field>(gate: Gate, x: Option<F>, y: Option<F>) -> Option<F>
     Some(element(gate.apply(!a.is_zero(), !b.is_zero())))
 }
 
-fn chosen_value<F: Field>(condition: Option<F>, x: Option<F>, y: Option<F>) -> Option<F>
+/// The first value where the condition is not zero, else the second, where all are there.
+pub fn chosen_value<F: Field>(condition: Option<F>, x: Option<F>, y: Option<F>) -> Option<F>
     ensures { option_map F.Field.number result ≡ chosen (option_map F.Field.number condition) (option_map F.Field.number x) (option_map F.Field.number y) }
 {
     let (c, a, b) = (condition?, x?, y?);

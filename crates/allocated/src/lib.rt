@@ -4,5 +4,5 @@
 mod allocated;
 mod gate;
 
-pub use allocated::{AllocatedBool, LooseBit};
+pub use allocated::{AllocatedBool, LooseBit, chosen_value};
 pub use gate::Gate;

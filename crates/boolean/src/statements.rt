@@ -26,7 +26,11 @@ impl Boolean {
     }
 
     /// The steps of a statement on constants alone wherever this bit is one: where the statement is broken the bit is 0.
-    fn unless<F: Field, S: System<F>>(self, holds: bool, cs: &mut S) -> Result<(), GadgetFault>
+    pub fn enforce_unless_steps<F: Field, S: System<F>>(
+        self,
+        holds: bool,
+        cs: &mut S,
+    ) -> Result<(), GadgetFault>
         ensures does { Ran (run F.Field.modulus (on_constants holds self)) (S.System.meaning cs.old) result (S.System.meaning cs.new) }
         ensures adds { Adds S.System.meaning S.System.stored S.System.knows cs.old cs.new }
     {
@@ -92,7 +96,9 @@ impl Boolean {
         ensures adds { Adds S.System.meaning S.System.stored S.System.knows cs.old cs.new }
     {
         match (self, other) {
-            (Boolean::Constant(a), Boolean::Constant(b)) => condition.unless(a == b, cs),
+            (Boolean::Constant(a), Boolean::Constant(b)) => {
+                condition.enforce_unless_steps(a == b, cs)
+            }
             (Boolean::Constant(true), Boolean::Var(v))
             | (Boolean::Var(v), Boolean::Constant(true)) => {
                 condition.makes_zero(&one_less::<F>(v.variable()), cs)
@@ -118,7 +124,9 @@ impl Boolean {
         ensures adds { Adds S.System.meaning S.System.stored S.System.knows cs.old cs.new }
     {
         match (self, other) {
-            (Boolean::Constant(a), Boolean::Constant(b)) => condition.unless(a != b, cs),
+            (Boolean::Constant(a), Boolean::Constant(b)) => {
+                condition.enforce_unless_steps(a != b, cs)
+            }
             (Boolean::Constant(true), Boolean::Var(v))
             | (Boolean::Var(v), Boolean::Constant(true)) => {
                 condition.makes_one(&[times(1, Variable::One), times(1, v.variable())], cs)

@@ -28,7 +28,7 @@ seek_finds p a x (suc n) P lx ex ln lp = go ((a * n) % p == 1) refl (λ l m. see
 pub inverse_is : (p a x : ℕ) → Prime p → x < p → (a * x) % p ≡ 1 → inverse p a ≡ x
 inverse_is p a x P lx ex = seek_finds p a x p P lx ex lx (omega arith)
 
-same_where_no_gap : (p x y : ℕ) → x < p → y < p → gap p x y ≡ 0 → x ≡ y
+pub same_where_no_gap : (p x y : ℕ) → x < p → y < p → gap p x y ≡ 0 → x ≡ y
 same_where_no_gap p x y lx ly e = go (nat_lt x y) refl
   where
     go : (t : Bool) → nat_lt x y ≡ t → x ≡ y
@@ -44,7 +44,7 @@ same_where_no_gap p x y lx ly e = go (nat_lt x y) refl
         let none : x - y ≡ 0 = sym (mod-eq_of_lt small) ∙ sym (add-mod_left p (x - y)) ∙ sym (ap (λ n. n % p) whole) ∙ e in
         omega arith
 
-no_gap_where_same : (p x y : ℕ) → y < p → x ≡ y → gap p x y ≡ 0
+pub no_gap_where_same : (p x y : ℕ) → y < p → x ≡ y → gap p x y ≡ 0
 no_gap_where_same p x y ly i = let s : x + (p - y) ≡ p = omega arith in ap (λ n. n % p) s ∙ mod_self p
 
 -- the inverse of a difference, or 1 where there is none, is the difference's multiplier

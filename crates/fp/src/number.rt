@@ -31,7 +31,7 @@ fn multiplier_value<F: Field>(x: Option<F>, y: Option<F>) -> Option<F>
 
 impl AllocatedFp {
     /// The number of a variable, which may be any: no row forces a number.
-    pub fn new(variable: Variable) -> AllocatedFp
+    pub fn named(variable: Variable) -> AllocatedFp
         ensures { result.variable ≡ variable }
     {
         AllocatedFp { variable }

@@ -77,11 +77,11 @@ pub(crate) fn compare<F: Field, S: System<F>>(
     match gate {
         Wide::And => {
             let all = cs.new_lc(&[times(members, Variable::One)])?;
-            AllocatedFp::new(all).is_eq_steps(AllocatedFp::new(total), cs)
+            AllocatedFp::named(all).is_eq_steps(AllocatedFp::named(total), cs)
         }
         Wide::Or => {
             let none = cs.new_lc(&[])?;
-            AllocatedFp::new(none).is_neq_steps(AllocatedFp::new(total), cs)
+            AllocatedFp::named(none).is_neq_steps(AllocatedFp::named(total), cs)
         }
     }
 }

@@ -17,7 +17,7 @@ returns-in_ok-all-in-And-clause-does g c =
     let n = g.S.System.meaning c.new_lc.new.self in
     ap (λ w. run p (compared w p c.args.members s) m) c.in-And.is
     ∙ combine_ok p (times c.args.members One ∷ []) (λ v. is_eq_script p v s) m n c.in_ok-all-in-And.all ((λ i. new_lc p (sym c.times.ensures i ∷ []) m) ∙ c.in_ok-all-in-And.ensures.does)
-    ∙ (λ i. run p (is_eq_script p (sym c.new.ensures i) (sym c.new-in-And.ensures i)) n)
+    ∙ (λ i. run p (is_eq_script p (sym c.named.ensures i) (sym c.named-in-And.ensures i)) n)
     ∙ c.is_eq_steps.ensures.does
 
 pub returns-in_ok-all-in-And-clause-adds : goal.returns-in_ok-all-in-And-clause-adds
@@ -31,7 +31,7 @@ returns-in_ok-none-in-Or-clause-does g c =
     let n = g.S.System.meaning c.new_lc-in-Or.new.self in
     ap (λ w. run p (compared w p c.args.members s) m) c.in-Or.is
     ∙ combine_ok p [] (λ v. is_neq_script p v s) m n c.in_ok-none-in-Or.none c.in_ok-none-in-Or.ensures.does
-    ∙ (λ i. run p (is_neq_script p (sym c.new-in-Or.ensures i) (sym c.new-in-Or-2.ensures i)) n)
+    ∙ (λ i. run p (is_neq_script p (sym c.named-in-Or.ensures i) (sym c.named-in-Or-2.ensures i)) n)
     ∙ c.is_neq_steps.ensures.does
 
 pub returns-in_ok-none-in-Or-clause-adds : goal.returns-in_ok-none-in-Or-clause-adds
