@@ -1,0 +1,24 @@
+use Rattle.std.proofs.Common.{◌≡◌, Err, sym, ap, ◌∙◌, rules}
+use Rattle.relations.specs.Script.{run}
+use Rattle.relations.proofs.Added.{adds_both}
+use Rattle.relations.proofs.Then.{then_ok, then_err}
+use Rattle.boolean.specs.Booleans.{as_var}
+use Rattle.fp.specs.Equality.{is_eq_script as same_script}
+use Rattle.fp_var.specs.Numbers.{constant_lc}
+use Rattle.fp_var.proofs.comparing.constant_equals.Goals as goal
+
+pub returns-in_err-x-clause-does : goal.returns-in_err-x-clause-does
+returns-in_err-x-clause-does g c =
+    let p = g.F.Field.modulus in
+    let is : c.from_residual.result ≡ Err c.in_err-x.field-0.0 = search rules in
+    then_err p (constant_lc c.args.c) (λ x. as_var (same_script p x c.args.v.variable)) _ _ _ c.in_err-x.ensures.does ∙ ap (λ r. (r, g.S.System.meaning c.constant_lc.new.cs)) (sym is)
+
+pub returns-clause-does : goal.returns-clause-does
+returns-clause-does g c =
+    let p = g.F.Field.modulus in
+    then_ok p (constant_lc c.args.c) (λ x. as_var (same_script p x c.args.v.variable)) _ _ _ c.in_ok-x.ensures.does
+    ∙ (λ i. run p (as_var (same_script p (sym c.named.ensures i) c.args.v.variable)) (g.S.System.meaning c.constant_lc.new.cs))
+    ∙ c.equals.ensures.does
+
+pub returns-clause-adds : goal.returns-clause-adds
+returns-clause-adds g c = adds_both c.in_ok-x.ensures.adds c.equals.ensures.adds
