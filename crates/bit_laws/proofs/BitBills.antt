@@ -29,7 +29,7 @@ unit u = tt
 abbrev pub Any : Next → Unit {0} → Type 0
 Any n u = Unit {0}
 
-swapped : (a b : ℕ) → eqb a b ≡ eqb b a
+pub swapped : (a b : ℕ) → eqb a b ≡ eqb b a
 swapped a b = go (eqb b a) refl
   where
     go : (t : Bool) → eqb b a ≡ t → eqb a b ≡ t
@@ -38,7 +38,7 @@ swapped a b = go (eqb b a) refl
 
 module _ (p : ℕ) (two : 2 < p) (n : Next) where
   -- a witness, and a row of k terms
-  output_owes : (vs : List Variable) (f : List (Option ℕ) → Option ℕ) (a b c : Variable → List Term) (k : ℕ) → present (f (map (λ v. Some 0) vs)) ≡ true
+  output_owes : (vs : List Variable) (f : List (Option ℕ) → Option ℕ) (a b c : Variable → List Term) (k : ℕ) → present (f (map (λ v. Some (n.kept v)) vs)) ≡ true
       → row_use (row_of p (a (Witness n.witness_at)) (b (Witness n.witness_at)) (c (Witness n.witness_at))) ≡ k
       → Owes p n (allocate witness vs f (λ w. row (a w) (b w) (c w) (answer (Var (allocated w))))) shadow OldBit (output_due k)
   output_owes vs f a b c k h z = record {
@@ -54,7 +54,7 @@ module _ (p : ℕ) (two : 2 < p) (n : Next) where
   }
 
   -- a row of one term in each part, of two in each, and of xor
-  ones_use : (a b : Variable) → Older n a → Older n b → row_use (row_of p (just a) (just b) (just (Witness n.witness_at))) ≡ 3
+  pub ones_use : (a b : Variable) → Older n a → Older n b → row_use (row_of p (just a) (just b) (just (Witness n.witness_at))) ≡ 3
   ones_use a b ha hb = λ i. just_size p two 1 a (one_some p two) (older_real n a ha) i + just_size p two 1 b (one_some p two) (older_real n b hb) i + just_size p two 1 (Witness n.witness_at) (one_some p two) refl i
 
   less_use : (a b : Variable) → Older n a → Older n b → row_use (row_of p (one_less p a) (one_less p b) (one_less p (Witness n.witness_at))) ≡ 6
@@ -89,7 +89,7 @@ module _ (p : ℕ) (two : 2 < p) (n : Next) where
       output_owes (a.variable ∷ b.variable ∷ []) (of_two (gated Xor)) (λ w. times 2 a.variable ∷ []) (λ w. just b.variable) (λ w. times 1 a.variable ∷ (times 1 b.variable ∷ (times (p - 1) w ∷ []))) (cond (eqb (code a.variable) (code b.variable)) 4 5) refl
       (xor_use a.variable b.variable ha hb)
 
-  choice_use : (c a b : Variable) → Older n c → Older n a → Older n b → row_use (row_of p (just c) (less p a b) (less p (Witness n.witness_at) b)) ≡ cond (eqb (code a) (code b)) 3 5
+  pub choice_use : (c a b : Variable) → Older n c → Older n a → Older n b → row_use (row_of p (just c) (less p a b) (less p (Witness n.witness_at) b)) ≡ cond (eqb (code a) (code b)) 3 5
   choice_use c a b hc ha hb =
       (λ i. just_size p two 1 c (one_some p two) (older_real n c hc) i + between_size p two a b (older_real n a ha) (older_real n b hb) i + between_size p two (Witness n.witness_at) b refl (older_real n b hb) i)
       ∙ (λ i. 1 + cond (eqb (code a) (code b)) 0 2 + cond (ne_eqb (code (Witness n.witness_at)) (code b) (λ e. witness_apart n b hb (sym e)) i) 0 2) ∙ go (eqb (code a) (code b))
@@ -125,7 +125,7 @@ module _ (p : ℕ) (two : 2 < p) (n : Next) where
   under_owes (Constant true) ts us vs k z = owes_row ts us vs k tt unit Any tt (z (λ e. cc)) refl tt
   under_owes (Var c) ts us vs k z = owes_row ts us vs k tt unit Any tt (z (λ e. cc)) refl tt
 
-  on_owes : (t : Bool) (c : Boolean) → OldBit n c → Owes p n (on_constants t c) unit Any (on_due t (shadow c))
+  pub on_owes : (t : Bool) (c : Boolean) → OldBit n c → Owes p n (on_constants t c) unit Any (on_due t (shadow c))
   on_owes true c h = owes_answer tt unit Any tt refl tt
   on_owes false (Constant true) h = owes_refuse Unsatisfiable unit Any
   on_owes false (Constant false) h = owes_answer tt unit Any tt refl tt

@@ -49,7 +49,7 @@ abbrev ends : ℕ × ℕ × ℕ → ℕ × ℕ
 ends x = (x.0, x.2)
 
 -- ---- the row of a choice between two variables
-choice_forced : (p c a b w : ℕ) → 0 < p → c ≤ 1 → a < p → b < p → w < p → ((1 * c + 0) * (1 * a + ((p - 1) * b + 0))) % p ≡ (1 * w + ((p - 1) * b + 0)) % p → w ≡ cond (truth c) a b
+pub choice_forced : (p c a b w : ℕ) → 0 < p → c ≤ 1 → a < p → b < p → w < p → ((1 * c + 0) * (1 * a + ((p - 1) * b + 0))) % p ≡ (1 * w + ((p - 1) * b + 0)) % p → w ≡ cond (truth c) a b
 choice_forced p c a b w pos hc la lb lw r = go c refl hc
   where
     go : (x : ℕ) → c ≡ x → x ≤ 1 → w ≡ cond (truth x) a b
@@ -57,7 +57,7 @@ choice_forced p c a b w pos hc la lb lw r = go c refl hc
     go (suc zero) e h = by_same p pos (c ∷ a ∷ b ∷ w ∷ []) (puts e (search reads) (times (p - 1) r (search reads depth 9) none)) lw la (search reads depth 9) done
     go (suc (suc x)) e h = absurd (omega arith)
 
-choice_met : (p c a b w : ℕ) → 0 < p → c ≤ 1 → w ≡ cond (truth c) a b → ((1 * c + 0) * (1 * a + ((p - 1) * b + 0))) % p ≡ (1 * w + ((p - 1) * b + 0)) % p
+pub choice_met : (p c a b w : ℕ) → 0 < p → c ≤ 1 → w ≡ cond (truth c) a b → ((1 * c + 0) * (1 * a + ((p - 1) * b + 0))) % p ≡ (1 * w + ((p - 1) * b + 0)) % p
 choice_met p c a b w pos hc e = go c refl hc e
   where
     go : (x : ℕ) → c ≡ x → x ≤ 1 → w ≡ cond (truth x) a b → ((1 * c + 0) * (1 * a + ((p - 1) * b + 0))) % p ≡ (1 * w + ((p - 1) * b + 0)) % p

@@ -50,7 +50,7 @@ multiplier_below p x y above = go (eqb x y)
     go false = seek_below p (gap p x y) p (omega arith) (omega arith)
 
 -- x less y modulo p, as rows write it
-gap_is : (p x y : ℕ) → 0 < p → y < p → (1 * x + ((p - 1) * y + 0)) % p ≡ gap p x y
+pub gap_is : (p x y : ℕ) → 0 < p → y < p → (1 * x + ((p - 1) * y + 0)) % p ≡ gap p x y
 gap_is p x y pos ly =
     sym (add-mul-mod_self_left (1 * x + ((p - 1) * y + 0)) p 1) ∙ ap (λ (t : ℕ). t % p) flat ∙ add-mul-mod_self_left (x + (p - y)) p y
   where

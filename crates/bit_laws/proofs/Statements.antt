@@ -76,7 +76,7 @@ module _ (p : ℕ) (two : 2 < p) (ρ : Val) (low : Low p ρ) where
 
 -- ---- rows under a condition
 -- D c = 0
-zero_under : (p D d c : ℕ) (A : Type 0) → d ≡ c → c ≤ 1 → ((D % p ≡ 0) ↔ A) → ((D * d) % p ≡ 0 % p) ↔ (c ≡ 1 → A)
+pub zero_under : (p D d c : ℕ) (A : Type 0) → d ≡ c → c ≤ 1 → ((D % p ≡ 0) ↔ A) → ((D * d) % p ≡ 0 % p) ↔ (c ≡ 1 → A)
 zero_under p D d c A e hc says = by_bit (λ c. d ≡ c → ((D * d) % p ≡ 0 % p) ↔ (c ≡ 1 → A))
     (λ e. (λ r q. absurd (omega arith), λ f. ap (λ (t : ℕ). t % p) (ap (λ (t : ℕ). D * t) e ∙ mul-zero D)))
     (λ e. let z : (D * d) % p ≡ D % p = ap (λ (t : ℕ). t % p) (ap (λ (t : ℕ). D * t) e ∙ mul-one D) in (λ r q. says.0 (sym z ∙ r ∙ zero-mod p), λ f. z ∙ says.1 (f refl) ∙ sym (zero-mod p)))
@@ -203,7 +203,7 @@ abbrev pub Silent : There → Unit {0} → Type 0
 Silent h u = Unit {0}
 
 module _ (p : ℕ) where
-  row_neat : (KI : There → Type 0) (ts us vs : List Term) → ((h : There) → Constants h → KI h → TermsThere h ts × TermsThere h us × TermsThere h vs) → Neat p (row ts us vs (answer tt)) KI Silent
+  pub row_neat : (KI : There → Type 0) (ts us vs : List Term) → ((h : There) → Constants h → KI h → TermsThere h ts × TermsThere h us × TermsThere h vs) → Neat p (row ts us vs (answer tt)) KI Silent
   row_neat KI ts us vs f = record { sees = λ h z k. let t = f h z k in (t.0, t.1, t.2, tt); tidy = tt; steady = tt }
 
   under_neat : (KI : There → Type 0) (c : Boolean) (ts us vs : List Term) → ((h : There) → Constants h → KI h → TermsThere h ts × TermsThere h us × TermsThere h vs) → Neat p (under c (row ts us vs (answer tt))) KI Silent
@@ -211,7 +211,7 @@ module _ (p : ℕ) where
   under_neat KI (Constant true) ts us vs f = row_neat KI ts us vs f
   under_neat KI (Var c) ts us vs f = row_neat KI ts us vs f
 
-  on_neat : (KI : There → Type 0) (t : Bool) (c : Boolean) → ((h : There) → KI h → ThereBit h c) → Neat p (on_constants t c) KI Silent
+  pub on_neat : (KI : There → Type 0) (t : Bool) (c : Boolean) → ((h : There) → KI h → ThereBit h c) → Neat p (on_constants t c) KI Silent
   on_neat KI true c f = neat_answer tt KI Silent (λ h k. tt)
   on_neat KI false (Constant true) f = neat_refuse Unsatisfiable KI Silent
   on_neat KI false (Constant false) f = neat_answer tt KI Silent (λ h k. tt)

@@ -203,7 +203,7 @@ module _ (p : ℕ) (two : 2 < p) where
           go true = refl
           go false = refl
 
-  not_allocated_owes : (a : AllocatedBool) (n : Next) → OldAllocated n a → Owes p n (not_allocated p a) unseen OldAllocated (owes (takes_combination 2 ∷ []) tt)
+  pub not_allocated_owes : (a : AllocatedBool) (n : Next) → OldAllocated n a → Owes p n (not_allocated p a) unseen OldAllocated (owes (takes_combination 2 ∷ []) tt)
   not_allocated_owes a n h = record {
     charged = ap (λ (k : ℕ). takes_combination k ∷ []) (less_size p two a.variable (older_real n a.variable h));
     ended = (record { inputs = omega arith; witnesses = omega arith; places = omega arith }, refl, omega arith);

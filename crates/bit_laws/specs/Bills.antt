@@ -16,12 +16,12 @@ use Rattle.gates.specs.Walk.{bit_of, bit_length}
 use Rattle.laws.specs.Bill.{Charge, takes_variable, takes_combination, takes_row, stops}
 
 -- ---- operands
--- the value of a constant; a variable has none
+-- the shadow of an operand is what a bill sees of it: the value of a constant; a variable has none
 abbrev pub shadow : Boolean → Option Bool
 shadow (Constant b) = Some b
 shadow (Var a) = None
 
--- those of a list
+-- the shadows of a list
 abbrev pub shadows : List Boolean → List (Option Bool)
 shadows bs = map shadow bs
 
@@ -32,6 +32,7 @@ same_name (Var a) (Constant b) = false
 same_name (Var a) (Var b) = code a.variable == code b.variable
 
 -- ---- what is due: a bill, and what is known of the answer, unless the bill ends in a refusal of the gadget's own
+-- a bill and what is known of the answer; nothing is known where it ends in a refusal
 abbrev pub Due : Type 0 → Type 0
 Due A = List Charge × Option A
 
@@ -39,6 +40,7 @@ Due A = List Charge × Option A
 abbrev pub owes : {A : Type 0} → List Charge → A → Due A
 owes cs a = (cs, Some a)
 
+-- a bill that is a refusal
 abbrev pub quits : {A : Type 0} → GadgetFault → Due A
 quits f = (stops f ∷ [], None)
 
@@ -118,6 +120,7 @@ difference_terms same None (Some true) = 2
 difference_terms same None (Some false) = 1
 difference_terms same None None = cond same 0 2
 
+-- how many terms the sum takes that is 1 where two bits differ
 abbrev pub together_terms : Bool → Option Bool → Option Bool → ℕ
 together_terms same (Some a) (Some b) = 0
 together_terms same (Some true) None = 2
@@ -132,6 +135,7 @@ equal_due same (Some a) (Some b) c = on_due (not (differ a b)) c
 equal_due same (Some a) None c = under_due c (difference_terms same (Some a) None + 1)
 equal_due same None b c = under_due c (difference_terms same None b + 1)
 
+-- where a condition is 1, two bits differ
 abbrev pub unequal_due : Bool → Option Bool → Option Bool → Option Bool → Due (Unit {0})
 unequal_due same (Some a) (Some b) c = on_due (differ a b) c
 unequal_due same (Some a) None c = under_due c (together_terms same (Some a) None + 2)
@@ -144,12 +148,15 @@ zero_due (Some false) = owes [] tt
 zero_due None = owes (takes_row 2 ∷ []) tt
 
 -- ---- equality of two numbers that are variables: two witnesses, the rows of their difference and one combination between them; and the not of the answer
+-- a loose bit and a multiplier, the row that ties them, the opposite of the bit, and the row of that
 abbrev pub differ_bill : Bool → List Charge
 differ_bill same = takes_variable witness true ∷ (takes_variable witness true ∷ (takes_row (cond same 2 4) ∷ (takes_combination 2 ∷ (takes_row (cond same 1 3) ∷ []))))
 
+-- and the opposite of what they say
 abbrev pub is_eq_bill : Bool → List Charge
 is_eq_bill same = differ_bill same ++ (takes_combination 2 ∷ [])
 
+-- and the opposite of that
 abbrev pub is_neq_bill : Bool → List Charge
 is_neq_bill same = is_eq_bill same ++ (takes_combination 2 ∷ [])
 
@@ -170,6 +177,7 @@ variables [] = 0
 variables (Some b ∷ bs) = variables bs
 variables (None ∷ bs) = 1 + variables bs
 
+-- how many are the constant one
 abbrev pub one_count : List (Option Bool) → ℕ
 one_count [] = 0
 one_count (Some true ∷ bs) = 1 + one_count bs
@@ -180,6 +188,7 @@ one_count (None ∷ bs) = one_count bs
 abbrev pub topped_bill : ℕ → List Charge
 topped_bill n = cond (n == 0) [] (takes_combination 2 ∷ [])
 
+-- the whole sum
 abbrev pub sum_bill : List (Option Bool) → List Charge
 sum_bill bs = replicate (variables bs) (takes_combination 1) ++ (takes_combination (variables bs) ∷ topped_bill (one_count bs))
 
@@ -194,6 +203,7 @@ all_known [] = true
 all_known (Some b ∷ bs) = all_known bs
 all_known (None ∷ bs) = false
 
+-- the values of constants; a variable counts as false
 abbrev pub values_of : List (Option Bool) → List Bool
 values_of [] = []
 values_of (Some b ∷ bs) = b ∷ values_of bs
@@ -211,6 +221,7 @@ kary_due g p bs = cond (sums (length bs)) (cond (nat_le p (length bs)) (quits To
 abbrev pub nand_due : ℕ → List (Option Bool) → Due (Option Bool)
 nand_due p bs = due_then (kary_due And p bs) not_due
 
+-- that not all members are one
 abbrev pub enforce_nand_due : ℕ → List (Option Bool) → Due (Unit {0})
 enforce_nand_due p bs = due_then (kary_due And p bs) zero_due
 

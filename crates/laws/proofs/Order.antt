@@ -1,13 +1,13 @@
 -- Gadgets in order, one after another.
 use Rattle.std.proofs.Common.{◌≡◌, ℕ, Bool, cond, List, [], ◌∷◌, sym, refl, ◌∙◌}
-use Rattle.relations.specs.Meaning.{Meaning, has}
+use Rattle.relations.specs.Meaning.{Meaning, has, assigned}
 use Rattle.relations.specs.Script.{Script, answer, refuse, then, run, whole}
 use Rattle.relations.specs.declared.fault.GadgetFault.{GadgetFault}
 use Rattle.laws.specs.Law.{Val, There, Constants, Wider, Names, Sees, Orderly}
 use Rattle.laws.specs.History.{Entry, Each, Kept}
 use Rattle.laws.specs.Bill.{names, charges, settled, billed}
 use Rattle.laws.proofs.Frame.{Pure, sees_then, sees_mono, sees_if, sees_names, tidy_then, tidy_if, tidy_pure, steady_then, steady_if, steady_pure, constants_wider, checked}
-use Rattle.laws.proofs.Settle.{settles, billed_whole}
+use Rattle.laws.proofs.Settle.{settles, foreseen_steady, billed_whole}
 
 -- the second has the first's operands and answers. Operands that are there stay there
 pub orderly_then : (p : ℕ) {In Mid Out : Type 0} (g : In → Script Mid) (f : In → Mid → Script Out) (KI : There → In → Type 0) (KM : There → Mid → Type 0) (KO : There → Out → Type 0)
@@ -77,7 +77,7 @@ orderly_names p g KI KO a i h z ki = sees_names h (g i) KO (a.sees h z i ki)
 
 -- a gadget in order ends as its bill is settled
 pub orderly_settles : (p : ℕ) {In Out : Type 0} (g : In → Script Out) (KI : There → In → Type 0) (KO : There → Out → Type 0) → Orderly p g KI KO → (i : In) (m : Meaning) → KI (has m) i → settled (charges p (names m) (g i)) m ≡ billed (run p (g i) m)
-orderly_settles p g KI KO a i m ki = settles p (g i) m KO (a.sees (has m) (record { one = refl; zero = refl }) i ki) (a.steady i)
+orderly_settles p g KI KO a i m ki = settles p (g i) m KO (a.sees (has m) (record { one = refl; zero = refl }) i ki) (foreseen_steady (has m) (assigned m) (g i) (a.steady i))
 
 -- so does a command whose gadget is in order, as one call from a system that is kept
 pub kept_settles : (p : ℕ) {Cmd Answer : Type 0} (num : Val → Answer → ℕ) (Known : There → Answer → Type 0) (Kind : Answer → ℕ → Type 0) (Reading : Cmd → List ℕ → List ℕ → Type 0) (script : Cmd → List Answer → Script (List Answer))

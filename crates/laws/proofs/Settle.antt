@@ -12,10 +12,12 @@ use Rattle.relations.specs.Meaning.{Meaning, Combo, Step, has, has_all, has_row,
 use Rattle.relations.specs.declared.term.Side.{Side}
 use Rattle.relations.specs.declared.term.Side.TheVariants.{Input as input, Witness as witness}
 use Rattle.relations.specs.Script.{Script, answer, refuse, allocate, combine, row, then, next, asking, run, restored, whole}
-use Rattle.laws.specs.Law.{There, AllThere, TermsThere, Sees, Steady, present}
-use Rattle.laws.specs.Bill.{Charge, takes_variable, takes_combination, takes_row, stops, Next, names, named, past, past_terms, charges, ends, Rooms, rooms, Account, account, space, spent, with_variable, with_terms, lacks, pay, follow, settle, settled, billed, nothing_used, plus, cost, tally, Within, Clean, Settled}
+use Rattle.laws.specs.Law.{Val, There, AllThere, TermsThere, Wider, Sees, Steady, present}
+use Rattle.laws.specs.Runs.{Agree}
+use Rattle.laws.specs.Bill.{Charge, takes_variable, takes_combination, takes_row, stops, Next, names, names_with, named, past, past_terms, charges, Foreseen, ends, Rooms, rooms, Account, account, space, spent, with_variable, with_terms, lacks, pay, follow, settle, settled, billed, nothing_used, plus, cost, tally, Within, Clean, Settled}
 use Rattle.laws.proofs.Heads.{places_append}
 use Rattle.laws.proofs.Link.{wider_new, wider_combo, new_there, combo_there}
+use Rattle.laws.proofs.Own.{assigned_new, assigned_combo, assigned_row}
 use Rattle.laws.proofs.Trace.{allocated, combined, enforced, refused}
 
 -- ---- what is named is there
@@ -38,14 +40,14 @@ asking_there {A} d (v ∷ vs) f k m h =
 
 -- ---- the names and the account after each step
 -- the next names past an input or witness
-names_new : (d : Side) (o : Option ℕ) (m : Meaning) → names (with_new d o m) ≡ past d (names m)
-names_new input o m = ap (λ (n : ℕ). record { input_at = n; witness_at = length m.witnesses; place = places m.combos }) (length-append m.inputs (o ∷ []))
-names_new witness o m = ap (λ (n : ℕ). record { input_at = length m.inputs; witness_at = n; place = places m.combos }) (length-append m.witnesses (o ∷ []))
+names_new : (q : Val) (d : Side) (o : Option ℕ) (m : Meaning) → names_with q (with_new d o m) ≡ past d (names_with q m)
+names_new q input o m = ap (λ (n : ℕ). record { input_at = n; witness_at = length m.witnesses; place = places m.combos; kept = q }) (length-append m.inputs (o ∷ []))
+names_new q witness o m = ap (λ (n : ℕ). record { input_at = length m.inputs; witness_at = n; place = places m.combos; kept = q }) (length-append m.witnesses (o ∷ []))
 
 -- the name of the new one
-named_new : (d : Side) (m : Meaning) → named d (names m) ≡ next_of d m
-named_new input m = refl
-named_new witness m = refl
+named_new : (q : Val) (d : Side) (m : Meaning) → named d (names_with q m) ≡ next_of d m
+named_new q input m = refl
+named_new q witness m = refl
 
 -- the rooms are the same
 rooms_new : (d : Side) (o : Option ℕ) (m : Meaning) → rooms (with_new d o m) ≡ rooms m
@@ -62,8 +64,8 @@ places_snoc : (cs : List Combo) (x : Combo) → places (cs ++ (x ∷ [])) ≡ pl
 places_snoc cs x = places_append cs (x ∷ []) ∙ omega arith
 
 -- the next names past a combination
-names_combo : (x : Combo) (m : Meaning) → names (with_combo x m) ≡ past_terms x.sum.size (names m)
-names_combo x m = ap (λ (n : ℕ). record { input_at = length m.inputs; witness_at = length m.witnesses; place = n }) (places_snoc m.combos x)
+names_combo : (q : Val) (x : Combo) (m : Meaning) → names_with q (with_combo x m) ≡ past_terms x.sum.size (names_with q m)
+names_combo q x m = ap (λ (n : ℕ). record { input_at = length m.inputs; witness_at = length m.witnesses; place = n; kept = q }) (places_snoc m.combos x)
 
 -- its terms and its heading are used
 account_combo : (x : Combo) (m : Meaning) → account (with_combo x m) ≡ with_terms (x.sum.size + 1) 0 (account m)
@@ -131,38 +133,64 @@ row_settles {A} p a b c m k cs there h = go (has_row m a b c) (leb (used m + row
     go true false r e = refl
     go false t r e = let z : ◌≡◌ {A = ℕ} 0 1 = cc e in absurd (omega arith)
 
--- ---- the whole bill: where all that a script names is there, it ends as its bill is settled
-pub settles : (p : ℕ) {A : Type 0} (s : Script A) (m : Meaning) (K : There → A → Type 0) → Sees (has m) s K → Steady s → settled (charges p (names m) s) m ≡ billed (run p s m)
-settles p (answer x) m K see st = refl
-settles p (refuse e) m K see st = refl
-settles p {A} (allocate d vs f k) m K see st =
-    new_settles d m (λ v. run p (k v)) (charges p (past d (names m)) (k (named d (names m)))) (f (map (kept m) vs)) (present (f (map (λ v. Some 0) vs)))
-    (λ w. (λ i. settle (sym (rooms_new d w m) i) (sym (account_new d w m) i) (charges p (sym (names_new d w m) i) (k (named_new d m i))))
-    ∙ settles p (k (next_of d m)) (with_new d w m) K (see.1 (has (with_new d w m)) (wider_new d w m) (next_of d m) (new_there d w m)) (st.1 (next_of d m)))
-    (λ keeps. ap (λ (b : Bool). present (f (map (λ v. cond b (Some (assigned m v)) None) vs))) keeps ∙ st.0 (assigned m))
+-- ---- what is foreseen
+-- where giving values does not depend on any, it is foreseen
+pub foreseen_steady : {A : Type 0} (h : There) (q : Val) (s : Script A) → Steady s → Foreseen h q s
+foreseen_steady h q (answer x) st = tt
+foreseen_steady h q (refuse e) st = tt
+foreseen_steady h q (allocate d vs f k) st = (λ ρ a. st.0 ρ ∙ sym (st.0 q), λ v. foreseen_steady h q (k v) (st.1 v))
+foreseen_steady h q (combine ts k) st = λ v. foreseen_steady h q (k v) (st v)
+foreseen_steady h q (row a b c s) st = foreseen_steady h q s st
+
+-- one script after another
+pub foreseen_then : {A B : Type 0} (h : There) (q : Val) (s : Script A) (k : A → Script B) → Foreseen h q s → ((x : A) → Foreseen h q (k x)) → Foreseen h q (then s k)
+foreseen_then h q (answer x) k a b = b x
+foreseen_then h q (refuse e) k a b = tt
+foreseen_then h q (allocate d vs f c) k a b = (a.0, λ v. foreseen_then h q (c v) k (a.1 v) b)
+foreseen_then h q (combine ts c) k a b = λ v. foreseen_then h q (c v) k (a v) b
+foreseen_then h q (row u v w s) k a b = foreseen_then h q s k a b
+
+-- numbers that agree on what is there go on doing so where more is there
+agree_on : (h : There) (m n : Meaning) (q : Val) → Wider h (has m) → Agree h q (assigned m) → Agree (has m) (assigned m) (assigned n) → Agree h q (assigned n)
+agree_on h m n q w a g v t = g v (w v t) ∙ a v t
+
+-- ---- the whole bill: where all that a script names is there, it ends as its bill is settled. The numbers q are those kept for the variables of h
+settles_with : (p : ℕ) {A : Type 0} (h : There) (q : Val) (s : Script A) (m : Meaning) (K : There → A → Type 0) → Wider h (has m) → Agree h q (assigned m) → Sees (has m) s K → Foreseen h q s
+    → settled (charges p (names_with q m) s) m ≡ billed (run p s m)
+settles_with p h q (answer x) m K w a see st = refl
+settles_with p h q (refuse e) m K w a see st = refl
+settles_with p {A} h q (allocate d vs f k) m K w a see st =
+    new_settles d m (λ v. run p (k v)) (charges p (past d (names_with q m)) (k (named d (names_with q m)))) (f (map (kept m) vs)) (present (f (map (λ v. Some (q v)) vs)))
+    (λ o. (λ i. settle (sym (rooms_new d o m) i) (sym (account_new d o m) i) (charges p (sym (names_new q d o m) i) (k (named_new q d m i))))
+    ∙ settles_with p h q (k (next_of d m)) (with_new d o m) K (λ v t. wider_new d o m v (w v t)) (agree_on h m (with_new d o m) q w a (assigned_new d o m)) (see.1 (has (with_new d o m)) (wider_new d o m) (next_of d m) (new_there d o m)) (st.1 (next_of d m)))
+    (λ keeps. ap (λ (b : Bool). present (f (map (λ v. cond b (Some (assigned m v)) None) vs))) keeps ∙ st.0 (assigned m) a)
     ∙ ap billed (sym (asking_there d vs f (λ v. run p (k v)) m see.0))
-settles p {A} (combine ts k) m K see st =
+settles_with p {A} h q (combine ts k) m K w a see st =
     let c : Combo = combo_of p ts m in
     let v : Variable = Combination (places m.combos + (sum_of p ts).size) in
-    combo_settles p ts m (λ v. run p (k v)) (charges p (past_terms (sum_of p ts).size (names m)) (k v)) (all_there (length m.inputs) (length m.witnesses) m.combos ts see.0)
-    ((λ i. settle (rooms m) (sym (account_combo c m) i) (charges p (sym (names_combo c m) i) (k v)))
-    ∙ settles p (k v) (with_combo c m) K (see.1 (has (with_combo c m)) (wider_combo c m) v (combo_there c m)) (st v))
-settles p {A} (row a b c s) m K see st =
+    combo_settles p ts m (λ v. run p (k v)) (charges p (past_terms (sum_of p ts).size (names_with q m)) (k v)) (all_there (length m.inputs) (length m.witnesses) m.combos ts see.0)
+    ((λ i. settle (rooms m) (sym (account_combo c m) i) (charges p (sym (names_combo q c m) i) (k v)))
+    ∙ settles_with p h q (k v) (with_combo c m) K (λ x t. wider_combo c m x (w x t)) (agree_on h m (with_combo c m) q w a (assigned_combo c m)) (see.1 (has (with_combo c m)) (wider_combo c m) v (combo_there c m)) (st v))
+settles_with p {A} h q (row a b c s) m K w g see st =
     let r : Row = row_of p a b c in
     let all : (ts : List Term) → TermsThere (has m) ts → has_all m ts ≡ true = λ ts. all_there (length m.inputs) (length m.witnesses) m.combos ts in
-    row_settles p a b c m (run p s) (charges p (names m) s) (both (has_all m a) (has_all m b && has_all m c) (all a see.0) (both (has_all m b) (has_all m c) (all b see.1) (all c see.2)))
-    ((λ i. settle (rooms m) (sym (account_row r m) i) (charges p (names m) s)) ∙ settles p s (with_row r m) K see.3 st)
+    row_settles p a b c m (run p s) (charges p (names_with q m) s) (both (has_all m a) (has_all m b && has_all m c) (all a see.0) (both (has_all m b) (has_all m c) (all b see.1) (all c see.2)))
+    ((λ i. settle (rooms m) (sym (account_row r m) i) (charges p (names_with q m) s)) ∙ settles_with p h q s (with_row r m) K w (λ v t. ap (λ (f : Val). f v) (sym (assigned_row r m)) ∙ g v t) see.3 st)
+
+-- with the numbers that a system keeps itself
+pub settles : (p : ℕ) {A : Type 0} (s : Script A) (m : Meaning) (K : There → A → Type 0) → Sees (has m) s K → Foreseen (has m) (assigned m) s → settled (charges p (names m) s) m ≡ billed (run p s m)
+settles p s m K see st = settles_with p (has m) (assigned m) s m K (λ v t. t) (λ v t. refl) see st
 
 -- a bill that cannot be paid is why a script is refused, and one that is paid is what it used
-pub settles_ok : (p : ℕ) {A : Type 0} (s : Script A) (m n : Meaning) (x : A) (K : There → A → Type 0) → Sees (has m) s K → Steady s → run p s m ≡ (Ok x, n) → settled (charges p (names m) s) m ≡ Ok (account n)
+pub settles_ok : (p : ℕ) {A : Type 0} (s : Script A) (m n : Meaning) (x : A) (K : There → A → Type 0) → Sees (has m) s K → Foreseen (has m) (assigned m) s → run p s m ≡ (Ok x, n) → settled (charges p (names m) s) m ≡ Ok (account n)
 settles_ok p s m n x K see st e = settles p s m K see st ∙ ap billed e
 
 -- a refused run is a bill that cannot be paid
-pub settles_err : (p : ℕ) {A : Type 0} (s : Script A) (m n : Meaning) (e : GadgetFault) (K : There → A → Type 0) → Sees (has m) s K → Steady s → run p s m ≡ (Err e, n) → settled (charges p (names m) s) m ≡ Err e
+pub settles_err : (p : ℕ) {A : Type 0} (s : Script A) (m n : Meaning) (e : GadgetFault) (K : There → A → Type 0) → Sees (has m) s K → Foreseen (has m) (assigned m) s → run p s m ≡ (Err e, n) → settled (charges p (names m) s) m ≡ Err e
 settles_err p s m n e K see st q = settles p s m K see st ∙ ap billed q
 
 -- and the other way round
-pub settled_err : (p : ℕ) {A : Type 0} (s : Script A) (m : Meaning) (e : GadgetFault) (K : There → A → Type 0) → Sees (has m) s K → Steady s → settled (charges p (names m) s) m ≡ Err e → (run p s m).0 ≡ Err e
+pub settled_err : (p : ℕ) {A : Type 0} (s : Script A) (m : Meaning) (e : GadgetFault) (K : There → A → Type 0) → Sees (has m) s K → Foreseen (has m) (assigned m) s → settled (charges p (names m) s) m ≡ Err e → (run p s m).0 ≡ Err e
 settled_err p {A} s m e K see st q = go (run p s m).0 (run p s m).1 (sym (settles p s m K see st) ∙ q)
   where
     go : (r : Result A GadgetFault) (n : Meaning) → billed (r, n) ≡ Err e → r ≡ Err e
@@ -170,7 +198,7 @@ settled_err p {A} s m e K see st q = go (run p s m).0 (run p s m).1 (sym (settle
     go (Err f) n h = let z : f ≡ e = cc h in ap Err z
 
 -- a bill that is paid is an accepted run
-pub settled_ok : (p : ℕ) {A : Type 0} (s : Script A) (m : Meaning) (a : Account) (K : There → A → Type 0) → Sees (has m) s K → Steady s → settled (charges p (names m) s) m ≡ Ok a → (x : A) × (n : Meaning) × (run p s m ≡ (Ok x, n)) × (account n ≡ a)
+pub settled_ok : (p : ℕ) {A : Type 0} (s : Script A) (m : Meaning) (a : Account) (K : There → A → Type 0) → Sees (has m) s K → Foreseen (has m) (assigned m) s → settled (charges p (names m) s) m ≡ Ok a → (x : A) × (n : Meaning) × (run p s m ≡ (Ok x, n)) × (account n ≡ a)
 settled_ok p {A} s m a K see st q = go (run p s m).0 (run p s m).1 refl (sym (settles p s m K see st) ∙ q)
   where
     go : (r : Result A GadgetFault) (n : Meaning) → run p s m ≡ (r, n) → billed (r, n) ≡ Ok a → (x : A) × (n : Meaning) × (run p s m ≡ (Ok x, n)) × (account n ≡ a)
@@ -187,7 +215,7 @@ behind p k (Some (x, n)) = charges p n (k x)
 pub charges_then : {A B : Type 0} (p : ℕ) (n : Next) (s : Script A) (k : A → Script B) → charges p n (then s k) ≡ charges p n s ++ behind p k (ends p n s)
 charges_then p n (answer x) k = refl
 charges_then p n (refuse e) k = refl
-charges_then p n (allocate d vs f c) k = ap (λ (l : List Charge). takes_variable d (present (f (map (λ v. Some 0) vs))) ∷ l) (charges_then p (past d n) (c (named d n)) k)
+charges_then p n (allocate d vs f c) k = ap (λ (l : List Charge). takes_variable d (present (f (map (λ v. Some (n.kept v)) vs))) ∷ l) (charges_then p (past d n) (c (named d n)) k)
 charges_then p n (combine ts c) k = ap (λ (l : List Charge). takes_combination (sum_of p ts).size ∷ l) (charges_then p (past_terms (sum_of p ts).size n) (c (Combination (n.place + (sum_of p ts).size))) k)
 charges_then p n (row a b c s) k = ap (λ (l : List Charge). takes_row (row_use (row_of p a b c)) ∷ l) (charges_then p n s k)
 
@@ -214,18 +242,22 @@ settle_append r a (x ∷ xs) ys = go (pay r a x) (λ b. settle_append r b xs ys)
     go (Err e) h = refl
 
 -- an accepted script answered what the names say
-pub ends_run : (p : ℕ) {A : Type 0} (s : Script A) (m n : Meaning) (x : A) → run p s m ≡ (Ok x, n) → ends p (names m) s ≡ Some (x, names n)
-ends_run p (answer y) m n x e = let q : y ≡ x = cc (ap (λ r. r.0) e) in λ i. Some (q i, names (e i).1)
-ends_run p (refuse f) m n x e = absurd (refused f m n x e)
-ends_run p {A} (allocate d vs f k) m n x e =
+pub ends_with : (p : ℕ) {A : Type 0} (q : Val) (s : Script A) (m n : Meaning) (x : A) → run p s m ≡ (Ok x, n) → ends p (names_with q m) s ≡ Some (x, names_with q n)
+ends_with p q (answer y) m n x e = let z : y ≡ x = cc (ap (λ r. r.0) e) in λ i. Some (z i, names_with q (e i).1)
+ends_with p q (refuse f) m n x e = absurd (refused f m n x e)
+ends_with p {A} q (allocate d vs f k) m n x e =
     let r = allocated d vs f (λ v. run p (k v)) m n x e in
-    (λ i. ends p (sym (names_new d r.value m) i) (k (named_new d m i))) ∙ ends_run p (k (next_of d m)) (with_new d r.value m) n x r.rest
-ends_run p (combine ts k) m n x e =
+    (λ i. ends p (sym (names_new q d r.value m) i) (k (named_new q d m i))) ∙ ends_with p q (k (next_of d m)) (with_new d r.value m) n x r.rest
+ends_with p q (combine ts k) m n x e =
     let r = combined p ts (λ v. run p (k v)) m n x e in
-    (λ i. ends p (sym (names_combo (combo_of p ts m) m) i) (k (Combination (places m.combos + (sum_of p ts).size)))) ∙ ends_run p (k (Combination (places m.combos + (sum_of p ts).size))) (with_combo (combo_of p ts m) m) n x r.rest
-ends_run p (row a b c s) m n x e =
+    (λ i. ends p (sym (names_combo q (combo_of p ts m) m) i) (k (Combination (places m.combos + (sum_of p ts).size)))) ∙ ends_with p q (k (Combination (places m.combos + (sum_of p ts).size))) (with_combo (combo_of p ts m) m) n x r.rest
+ends_with p q (row a b c s) m n x e =
     let r = enforced p a b c (run p s) m n x e in
-    ends_run p s (with_row (row_of p a b c) m) n x r.rest
+    ends_with p q s (with_row (row_of p a b c) m) n x r.rest
+
+-- with the numbers that were kept where it began
+pub ends_run : (p : ℕ) {A : Type 0} (s : Script A) (m n : Meaning) (x : A) → run p s m ≡ (Ok x, n) → ends p (names m) s ≡ Some (x, names_with (assigned m) n)
+ends_run p s m n x e = ends_with p (assigned m) s m n x e
 
 -- ---- a bill is paid exactly when it is clean and comes to no more than there is room for
 -- accounts with the same counts are the same

@@ -1,15 +1,14 @@
 -- The theorem over runs, for any commands whose gadgets keep their laws.
-use Rattle.std.proofs.Common.{◌≡◌, ℕ, suc, ◌<◌, true, List, [], ◌∷◌, ◌++◌, length, get_or, take, drop, None, Ok, Err, Option, Result, sym, refl, ap, ◌∙◌, subst, ap₂, arith, length-append}
+use Rattle.std.proofs.Common.{◌≡◌, ℕ, suc, ◌<◌, true, List, [], ◌∷◌, ◌++◌, length, get_or, take, drop, None, Ok, Option, sym, refl, ap, ◌∙◌, subst, ap₂, arith, length-append}
 use Rattle.std.proofs.lemmas.List.{take_at, drop_at}
 use Rattle.relations.specs.declared.term.Variable.{Variable}
 use Rattle.relations.specs.declared.term.Variable.TheVariants.{One, Zero, Input, Witness, Combination}
-use Rattle.relations.specs.declared.fault.GadgetFault.{GadgetFault}
 use Rattle.relations.specs.Meaning.{Meaning, Combo, Fresh, number, kept_at, has, assigned}
-use Rattle.relations.specs.Script.{Script, run, restored, whole}
+use Rattle.relations.specs.Script.{Script, run}
 use Rattle.relations.specs.Meaning.{Grows}
 use Rattle.laws.specs.Law.{Val, Low, There, Constants, Wider, Names, Tidy, Law, lists}
 use Rattle.laws.specs.Runs.{Met, Sums, Agree, Same, Formed, RowsKnown, Solves, Promises, Assignment, values}
-use Rattle.laws.specs.History.{Entry, accepted, refused, Obeys, written, entered, Each, Along, Kept, Own, Faithful}
+use Rattle.laws.specs.History.{Entry, accepted, refused, Obeys, Each, Along, Kept, Own, Faithful}
 use Rattle.laws.proofs.Link.{has_grows, run_grows, met_same}
 use Rattle.laws.proofs.Own.{assigned_grows, right_run}
 use Rattle.laws.proofs.Grown.{proper_run, names_run}
@@ -95,6 +94,17 @@ fresh_low p above m f = record { one = refl; zero = refl; low = go }
     go (Witness k) = subst (λ (l : List (Option ℕ)). number (get_or l k None) < p) (sym f.no_witnesses) (omega arith)
     go (Combination c) = subst (λ (l : List Combo). kept_at c l < p) (sym f.no_combos) (omega arith)
 
+-- ---- commands
+-- what is asked of the steps s of a command on a book: their law with the reading R, that what they answer is there, that the values that they give
+-- are low, that numbers that obey the reading are such as the answers stand for, and that numbers that the book stands for are such as the law wants
+pub record Obeyed (p : ℕ) {Answer : Type 0} (num : Val → Answer → ℕ) (Known : There → Answer → Type 0) (Kind : Answer → ℕ → Type 0)
+    (bk : List Answer) (s : Script (List Answer)) (Pre : List ℕ → Type 0) (R : List ℕ → List ℕ → Type 0) (S : List ℕ → Type 0) (e : List ℕ → List ℕ) : Type 0 where
+  pub law : Law p (λ ρ (u : Unit {0}). lists num ρ bk) (lists num) (λ u. s) Pre R S e
+  pub names : (h : There) → Constants h → Each (Known h) bk → Names h s (λ k os. Each (Known k) os)
+  pub tidy : Tidy p s
+  pub kinds : (os : List Answer) (m n : Meaning) → run p s m ≡ (Ok os, n) → (old new : List ℕ) → Along Kind bk old → length new ≡ length os → R old new → Along Kind os new
+  pub pre : (xs : List ℕ) → Along Kind bk xs → Pre xs
+
 module _ (p : ℕ) (above : 1 < p) {Cmd Answer : Type 0} (num : Val → Answer → ℕ) (Known : There → Answer → Type 0) (Kind : Answer → ℕ → Type 0) (Reading : Cmd → List ℕ → List ℕ → Type 0) where
   -- what is promised of a system that is empty, and of no commands
   pub start : (m : Meaning) → Fresh m → Kept p num Known Kind Reading [] m []
@@ -149,48 +159,43 @@ module _ (p : ℕ) (above : 1 < p) {Cmd Answer : Type 0} (num : Val → Answer �
 
   -- ---- commands with their scripts
   module _ (local : (h : There) (ρ σ : Val) → Agree h ρ σ → (o : Answer) → Known h o → num σ o ≡ num ρ o)
-      (wider : (h k : There) → Wider h k → (o : Answer) → Known h o → Known k o)
-      (script : Cmd → List Answer → Script (List Answer)) (Pre S : Cmd → List ℕ → Type 0) (e : Cmd → List ℕ → List ℕ)
-      (lawful : (c : Cmd) → Law p (lists num) (lists num) (script c) (Pre c) (Reading c) (S c) (e c))
-      (names : (c : Cmd) (bk : List Answer) (h : There) → Constants h → Each (Known h) bk → Names h (script c bk) (λ k os. Each (Known k) os))
-      (tidy : (c : Cmd) (bk : List Answer) → Tidy p (script c bk))
-      (kinds : (c : Cmd) (bk os : List Answer) (m n : Meaning) → run p (script c bk) m ≡ (Ok os, n) → (old new : List ℕ) → Along Kind bk old → length new ≡ length os → Reading c old new → Along Kind os new)
-      (pre : (c : Cmd) (h : List (Entry Cmd)) (bk os : List Answer) (m n : Meaning) → run p (script c bk) m ≡ (Ok os, n) → (xs : List ℕ) → Along Kind bk xs → Obeys Reading h xs → Pre c xs) where
+      (wider : (h k : There) → Wider h k → (o : Answer) → Known h o → Known k o) where
     -- an accepted command is one more entry, with its answers
-    pub step_accepted : (c : Cmd) (h : List (Entry Cmd)) (m n : Meaning) (bk os : List Answer) → Kept p num Known Kind Reading h m bk → run p (script c bk) m ≡ (Ok os, n) → Kept p num Known Kind Reading (accepted c (length os) ∷ h) n (bk ++ os)
-    step_accepted c h m n bk os k ran = record {
-      proper = proper_run p above (script c bk) m n os ran k.proper;
-      book = each_append (Known (has n)) bk os (each_wider Known wider (has m) (has n) (has_grows m n grows) bk k.book) (names_run p (script c bk) m n os (λ t os. Each (Known t) os) ran (names c bk (has m) (record { one = refl; zero = refl }) k.book));
-      kinds = λ xs o. subst (Along Kind (bk ++ os)) (sym o.2) (along_append Kind bk os o.0 o.1 (k.kinds o.0 o.5) (kinds c bk os m n ran o.0 o.1 (k.kinds o.0 o.5) o.3 o.4));
-      right = λ q. right_run p above (script c bk) m n os ran (tidy c bk) (kept q) k.proper (k.right (kept q));
+    pub step_accepted : (c : Cmd) (h : List (Entry Cmd)) (m n : Meaning) (bk os : List Answer) (s : Script (List Answer)) (Pre S : List ℕ → Type 0) (e : List ℕ → List ℕ) → Obeyed p num Known Kind bk s Pre (Reading c) S e
+        → Kept p num Known Kind Reading h m bk → run p s m ≡ (Ok os, n) → Kept p num Known Kind Reading (accepted c (length os) ∷ h) n (bk ++ os)
+    step_accepted c h m n bk os s Pre S e by k ran = record {
+      proper = proper_run p above s m n os ran k.proper;
+      book = each_append (Known (has n)) bk os (each_wider Known wider (has m) (has n) (has_grows m n grows) bk k.book) (names_run p s m n os (λ t os. Each (Known t) os) ran (by.names (has m) (record { one = refl; zero = refl }) k.book));
+      kinds = λ xs o. subst (Along Kind (bk ++ os)) (sym o.2) (along_append Kind bk os o.0 o.1 (k.kinds o.0 o.5) (by.kinds os m n ran o.0 o.1 (k.kinds o.0 o.5) o.3 o.4));
+      right = λ q. right_run p above s m n os ran by.tidy (kept q) k.proper (k.right (kept q));
       sound = sound;
       complete = complete;
       own = own;
     }
       where
         grows : Grows m n
-        grows = run_grows p (script c bk) m n os ran
+        grows = run_grows p s m n os ran
 
         kept : n.keeps ≡ true → m.keeps ≡ true
-        kept q = sym (run_grows p (script c bk) m n os ran).keeps_is ∙ q
+        kept q = sym (run_grows p s m n os ran).keeps_is ∙ q
 
-        promises : Promises p (lists num) (lists num) (Pre c) (Reading c) bk m n os
-        promises = law_runs p above (lists num) (lists num) (script c) (Pre c) (Reading c) (S c) (e c) (lawful c) bk m n os k.proper (λ ρ σ a. nums_same num Known local (has m) ρ σ a bk k.book) ran
+        promises : Promises p (λ ρ (u : Unit {0}). lists num ρ bk) (lists num) Pre (Reading c) tt m n os
+        promises = law_runs p above (λ ρ (u : Unit {0}). lists num ρ bk) (lists num) (λ u. s) Pre (Reading c) S e by.law tt m n os k.proper (λ ρ σ a. nums_same num Known local (has m) ρ σ a bk k.book) ran
 
-        known : (xs : List ℕ) → Obeys Reading h xs → Pre c xs
-        known xs o = pre c h bk os m n ran xs (k.kinds xs o) o
+        known : (xs : List ℕ) → Obeys Reading h xs → Pre xs
+        known xs o = by.pre xs (k.kinds xs o)
 
         sound : (ρ : Val) → Solves p n ρ → Obeys Reading (accepted c (length os) ∷ h) (lists num ρ (bk ++ os))
-        sound ρ s =
-            let o : Obeys Reading h (lists num ρ bk) = k.sound ρ (promises.before ρ s) in
-            (lists num ρ bk, lists num ρ os, lists_append num ρ bk os, length_lists num ρ os, promises.sound ρ s (known (lists num ρ bk) o), o)
+        sound ρ t =
+            let o : Obeys Reading h (lists num ρ bk) = k.sound ρ (promises.before ρ t) in
+            (lists num ρ bk, lists num ρ os, lists_append num ρ bk os, length_lists num ρ os, promises.sound ρ t (known (lists num ρ bk) o), o)
 
         complete : (xs : List ℕ) → Obeys Reading (accepted c (length os) ∷ h) xs → (ρ : Val) × Solves p n ρ × (lists num ρ (bk ++ os) ≡ xs)
         complete xs o =
             let old : List ℕ = o.0 in
             let got = k.complete old o.5 in
             let ρ : Val = got.0 in
-            let more = promises.complete ρ got.1 o.1 (subst (Pre c) (sym got.2) (known old o.5)) (subst (λ (l : List ℕ). Reading c l o.1) (sym got.2) o.4) in
+            let more = promises.complete ρ got.1 o.1 (subst Pre (sym got.2) (known old o.5)) (subst (λ (l : List ℕ). Reading c l o.1) (sym got.2) o.4) in
             let same = nums_same num Known local (has m) ρ more.0 more.2 bk k.book ∙ got.2 in
             (more.0, more.1, lists_append num more.0 bk os ∙ ap₂ (λ (x y : List ℕ). x ++ y) same more.3 ∙ sym o.2)
 
@@ -201,13 +206,3 @@ module _ (p : ℕ) (above : 1 < p) {Cmd Answer : Type 0} (num : Val → Answer �
             let first : o.0 ≡ lists num (assigned m) bk = sym split.0 ∙ same in
             let old : Obeys Reading h (lists num (assigned m) bk) = subst (Obeys Reading h) first o.5 in
             (promises.own (kept q) (k.own (kept q) old) (known (lists num (assigned m) bk) old) (o.1, subst (λ (l : List ℕ). Reading c l o.1) first o.4)).0
-
-    -- a command as one call, accepted or refused
-    pub step_whole : (c : Cmd) (h : List (Entry Cmd)) (m n : Meaning) (bk : List Answer) (r : Result (List Answer) GadgetFault) → Kept p num Known Kind Reading h m bk → whole (run p (script c bk)) m ≡ (r, n) → Kept p num Known Kind Reading (entered c r ∷ h) n (written bk r)
-    step_whole c h m n bk r k ran = go (run p (script c bk) m).0 (run p (script c bk) m).1 refl r ran
-      where
-        go : (z : Result (List Answer) GadgetFault) (l : Meaning) → run p (script c bk) m ≡ (z, l) → (r : Result (List Answer) GadgetFault) → restored m z l ≡ (r, n) → Kept p num Known Kind Reading (entered c r ∷ h) n (written bk r)
-        go (Ok os) l q r w =
-            subst (λ (t : Result (List Answer) GadgetFault × Meaning). Kept p num Known Kind Reading (entered c t.0 ∷ h) t.1 (written bk t.0)) w (step_accepted c h m l bk os k q)
-        go (Err f) l q r w =
-            subst (λ (t : Result (List Answer) GadgetFault × Meaning). Kept p num Known Kind Reading (entered c t.0 ∷ h) t.1 (written bk t.0)) w (step_refused c h m bk k)

@@ -6,11 +6,12 @@ use Rattle.relations.specs.declared.fault.SystemFault.TheVariants.{MissingValue,
 use Rattle.relations.specs.declared.fault.GadgetFault.{GadgetFault}
 use Rattle.relations.specs.declared.fault.GadgetFault.TheVariants.{System}
 use Rattle.relations.specs.Sum.{sum_of, row_of}
-use Rattle.relations.specs.Meaning.{Meaning, full, places, row_use, used, rows_full}
+use Rattle.relations.specs.Meaning.{Meaning, assigned, full, places, row_use, used, rows_full}
 use Rattle.relations.specs.declared.term.Side.{Side}
 use Rattle.relations.specs.declared.term.Side.TheVariants.{Input as input, Witness as witness}
 use Rattle.relations.specs.Script.{Script, answer, refuse, allocate, combine, row}
-use Rattle.laws.specs.Law.{present}
+use Rattle.laws.specs.Law.{Val, There, present}
+use Rattle.laws.specs.Runs.{Agree}
 
 -- one thing that is asked for: an input or witness, and whether there is a value for it; a combination of so many terms, its heading not
 -- counted; a row of so many terms; or a refusal of the gadget's own
@@ -21,15 +22,21 @@ pub data Charge : Type 0 where
   stops : GadgetFault → Charge
 
 -- ---- the bill of a script
--- the next input, the next witness and the next place of a system: the names that new variables get
+-- the next input, the next witness and the next place of a system, which are the names that new variables get, and the numbers that were kept
+-- where a script began: what it asks for may depend on those of its operands
 pub record Next : Type 0 where
   pub input_at : ℕ
   pub witness_at : ℕ
   pub place : ℕ
+  pub kept : Val
 
--- those of a system
+-- those of a system, with numbers q
+abbrev pub names_with : Val → Meaning → Next
+names_with q m = record { input_at = length m.inputs; witness_at = length m.witnesses; place = places m.combos; kept = q }
+
+-- with its own
 abbrev pub names : Meaning → Next
-names m = record { input_at = length m.inputs; witness_at = length m.witnesses; place = places m.combos }
+names m = names_with (assigned m) m
 
 -- the name of a new input or witness
 abbrev pub named : Side → Next → Variable
@@ -38,20 +45,28 @@ named witness n = Witness n.witness_at
 
 -- the names past it
 abbrev pub past : Side → Next → Next
-past input n = record { input_at = n.input_at + 1; witness_at = n.witness_at; place = n.place }
-past witness n = record { input_at = n.input_at; witness_at = n.witness_at + 1; place = n.place }
+past input n = record { input_at = n.input_at + 1; witness_at = n.witness_at; place = n.place; kept = n.kept }
+past witness n = record { input_at = n.input_at; witness_at = n.witness_at + 1; place = n.place; kept = n.kept }
 
 -- the names past a combination of k terms
 abbrev pub past_terms : ℕ → Next → Next
-past_terms k n = record { input_at = n.input_at; witness_at = n.witness_at; place = n.place + (k + 1) }
+past_terms k n = record { input_at = n.input_at; witness_at = n.witness_at; place = n.place + (k + 1); kept = n.kept }
 
--- what a script asks for, in order. Whether there is a value for a variable is the same for all values that were asked for
+-- what a script asks for, in order. Whether there is a value for a variable goes by the numbers that were kept where the script began
 abbrev pub charges : {A : Type 0} → ℕ → Next → Script A → List Charge
 charges p n (answer x) = []
 charges p n (refuse e) = stops e ∷ []
-charges p n (allocate d vs f k) = takes_variable d (present (f (map (λ v. Some 0) vs))) ∷ charges p (past d n) (k (named d n))
+charges p n (allocate d vs f k) = takes_variable d (present (f (map (λ v. Some (n.kept v)) vs))) ∷ charges p (past d n) (k (named d n))
 charges p n (combine ts k) = takes_combination (sum_of p ts).size ∷ charges p (past_terms (sum_of p ts).size n) (k (Combination (n.place + (sum_of p ts).size)))
 charges p n (row a b c s) = takes_row (row_use (row_of p a b c)) ∷ charges p n s
+
+-- so it is foreseen: whether a script gives a value is the same for all numbers that give the variables of h what q gives them
+abbrev pub Foreseen : {A : Type 0} → There → Val → Script A → Type 0
+Foreseen h q (answer x) = Unit {0}
+Foreseen h q (refuse e) = Unit {0}
+Foreseen h q (allocate d vs f k) = ((ρ : Val) → Agree h q ρ → present (f (map (λ v. Some (ρ v)) vs)) ≡ present (f (map (λ v. Some (q v)) vs))) × ((v : Variable) → Foreseen h q (k v))
+Foreseen h q (combine ts k) = (v : Variable) → Foreseen h q (k v)
+Foreseen h q (row a b c s) = Foreseen h q s
 
 -- where a script ends if nothing is refused: its answer and the next names
 abbrev pub ends : {A : Type 0} → ℕ → Next → Script A → Option (A × Next)
