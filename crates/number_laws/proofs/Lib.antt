@@ -1,0 +1,13 @@
+pub mod Modulo
+pub mod Shapes
+pub mod Arithmetic
+pub mod Products
+pub mod Comparing
+pub mod NumberStatements
+pub mod Selecting
+pub mod NumberOrder
+pub mod StatementOrder
+pub mod NumberSizes
+pub mod NumberBills
+pub mod StatementBills
+pub mod NumberCharged
