@@ -6,6 +6,7 @@ use Rattle.command.specs.declared.answers.Refused.{Refused}
 use Rattle.command.specs.declared.fault.TapeFault.{TapeFault}
 use Rattle.command.specs.declared.fault.TapeFault.TheVariants.{Gadget, Unknown, Operand, Length, BookFull}
 
+-- the number and the layer of a fault
 abbrev pub of_tape : TapeFault → Refusal
 of_tape (Gadget f) = of_gadget f
 of_tape Unknown = refusal 1 1

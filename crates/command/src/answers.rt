@@ -1,9 +1,11 @@
 ghost use Rattle.std.specs.Prelude.{◌≡◌, ◌≤◌};
-ghost use Rattle.command.specs.Answers.{kind_of, mode_of, value_of};
+ghost use Rattle.command.specs.Answers.{kind_of, mode_of, value_of, number_of as number_modulo};
 
 use crate::commands::Kind;
 use crate::fault::TapeFault;
 use boolean::{AllocationMode, Boolean};
+use field::Field;
+use fp_var::FpVar;
 use relations::Refusal;
 use std::fmt;
 
@@ -11,6 +13,7 @@ use std::fmt;
 #[derive(Clone, Copy)]
 pub enum Answer {
     Bit(Boolean),
+    Number(FpVar),
 }
 
 /// A refused command of a run: its number, counted from 0, and the refusal.
@@ -98,6 +101,7 @@ impl Answer {
     {
         match self {
             Answer::Bit(_) => Kind::Bit,
+            Answer::Number(_) => Kind::Number,
         }
     }
 }
@@ -124,4 +128,15 @@ pub fn value_of(byte: u8) -> Option<bool>
         1 => Some(true),
         _ => None,
     }
+}
+
+// Not a `From`, as `value_of` is none.
+/// A signed number of the tape, modulo the field's prime, where the byte before it says that it is there: 0 says that it is not.
+pub fn number_of<F: Field>(there: u8, value: i64) -> Option<u32>
+    ensures { result ≡ number_modulo F.Field.modulus there value }
+{
+    if there == 0 {
+        return None;
+    }
+    Some(F::from_i64(value).to_number())
 }

@@ -1,7 +1,7 @@
 ghost use Rattle.std.specs.Prelude.{◌≡◌, List, length};
 ghost use Rattle.relations.specs.Script.{over};
 ghost use Rattle.command.specs.declared.commands.Kind.{Kind as Sort};
-ghost use Rattle.command.specs.Decide.{kind_at, is_bit, range_is_bits, short, fits, measured, answers, checked};
+ghost use Rattle.command.specs.Decide.{kind_at, is_bit, is_number, range_is_bits, short, fits, measured, answers, checked};
 
 use crate::commands::{Command, Kary, Kind, Range};
 use crate::fault::TapeFault;
@@ -25,6 +25,13 @@ fn names_bit<B: Kinds>(book: &B, a: u32) -> bool
     ensures { result ≡ is_bit (B.Kinds.kinds book.now) a }
 {
     book.kind(a) == Some(Kind::Bit)
+}
+
+/// Whether an answer is there and is a number.
+fn names_number<B: Kinds>(book: &B, a: u32) -> bool
+    ensures { result ≡ is_number (B.Kinds.kinds book.now) a }
+{
+    book.kind(a) == Some(Kind::Number)
 }
 
 /// Whether all answers of a range are there and are bits.
@@ -62,6 +69,21 @@ fn is_fit<B: Kinds>(command: Command, book: &B) -> bool
         Command::Select(a, b, c) | Command::Enforce(_, a, b, c) => {
             names_bit(book, a) && names_bit(book, b) && names_bit(book, c)
         }
+        Command::Number(mode, there, _) => mode <= 2 && there <= 1,
+        Command::Binary(_, a, b) | Command::SquareEquals(a, b) | Command::Compare(_, a, b) => {
+            names_number(book, a) && names_number(book, b)
+        }
+        Command::Unary(_, a) => names_number(book, a),
+        Command::MulEquals(a, b, c) => {
+            names_number(book, a) && names_number(book, b) && names_number(book, c)
+        }
+        Command::EnforceNumbers(_, a, b, c) => {
+            names_number(book, a) && names_number(book, b) && names_bit(book, c)
+        }
+        Command::SelectNumber(c, a, b) => {
+            names_bit(book, c) && names_number(book, a) && names_number(book, b)
+        }
+        Command::FromBit(a) => names_bit(book, a),
     }
 }
 
@@ -84,7 +106,10 @@ fn answer_count(command: Command) -> usize
     match command {
         Command::Kary(Kary::EnforceNand, _)
         | Command::Enforce(_, _, _, _)
-        | Command::AtMost(_, _) => 0,
+        | Command::AtMost(_, _)
+        | Command::MulEquals(_, _, _)
+        | Command::SquareEquals(_, _)
+        | Command::EnforceNumbers(_, _, _, _) => 0,
         _ => 1,
     }
 }

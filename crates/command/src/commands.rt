@@ -30,6 +30,29 @@ pub enum Claim {
     Unequal,
 }
 
+/// A command on two numbers, whose answer is a number.
+#[derive(Clone, Copy)]
+pub enum Binary {
+    Add,
+    Sub,
+    Mul,
+}
+
+/// A command on one number, whose answer is a number.
+#[derive(Clone, Copy)]
+pub enum Unary {
+    Negate,
+    Double,
+    Inverse,
+}
+
+/// A question on two numbers: whether they are equal, or are not.
+#[derive(Clone, Copy)]
+pub enum Comparison {
+    IsEq,
+    IsNeq,
+}
+
 /// A command as its bytes say, before any operand is looked at: an operand is the number of an answer of the book.
 #[derive(Clone, Copy)]
 pub enum Command {
@@ -45,6 +68,18 @@ pub enum Command {
     // The condition last, as on the tape.
     Enforce(Claim, u32, u32, u32),
     AtMost(Range, u64),
+    // The mode, whether a value is there, and the value: bytes, as for a bit.
+    Number(u8, u8, i64),
+    Binary(Binary, u32, u32),
+    Unary(Unary, u32),
+    MulEquals(u32, u32, u32),
+    SquareEquals(u32, u32),
+    Compare(Comparison, u32, u32),
+    // The condition last, as on the tape.
+    EnforceNumbers(Claim, u32, u32, u32),
+    // The condition first, as on the tape.
+    SelectNumber(u32, u32, u32),
+    FromBit(u32),
 }
 
 /// A command, and how many bytes it takes.

@@ -6,8 +6,8 @@ mod commands;
 mod decoding;
 mod fault;
 
-pub use answers::{Answer, Answers, Refused, mode_of, value_of};
+pub use answers::{Answer, Answers, Refused, mode_of, number_of, value_of};
 pub use checking::{Kinds, check};
-pub use commands::{Claim, Command, Decoded, Kary, Kind, Range};
-pub use decoding::{command_length, decode};
+pub use commands::{Binary, Claim, Command, Comparison, Decoded, Kary, Kind, Range, Unary};
+pub use decoding::{Shape, decode, opcode_shape};
 pub use fault::TapeFault;
