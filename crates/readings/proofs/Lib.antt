@@ -1,4 +1,9 @@
 pub mod OnBook
 pub mod Operands
+pub mod Tables
+pub mod BitCommands
+pub mod NumberCommands
 pub mod CommandLaws
+pub mod Told
+pub mod Seen
 pub mod Step

@@ -1,98 +1,34 @@
 -- One command more keeps what runs keep.
-use Rattle.std.proofs.Common.{◌≡◌, ℕ, suc, ◌+◌, ◌<◌, Bool, true, false, cond, leb, List, [], ◌∷◌, ◌++◌, length, Some, None, Ok, Err, Option, Result, sym, refl, ap, ◌∙◌, subst, arith, ◌≤◌, leb-true}
+use Rattle.std.proofs.Common.{◌≡◌, ℕ, suc, ◌+◌, ◌<◌, Bool, true, false, cond, leb, List, [], ◌∷◌, ◌++◌, length, Some, Ok, Err, Result, sym, refl, ap, ◌∙◌, subst, arith, ◌≤◌, leb-true}
 use lib.ListN.{length-map}
-use lib.Seq.{get_or_at}
 use Rattle.arith.specs.Number.{Prime}
-use Rattle.relations.specs.declared.term.Variable.{Variable}
 use Rattle.relations.specs.declared.fault.GadgetFault.{GadgetFault}
-use Rattle.relations.specs.declared.fault.GadgetFault.TheVariants.{NoValue}
-use Rattle.relations.specs.Meaning.{Meaning, Fresh, Grows, has, assigned, next_of, with_new, number}
-use Rattle.relations.specs.declared.term.Side.{Side}
-use Rattle.relations.specs.declared.term.Side.TheVariants.{Input as input, Witness as witness}
-use Rattle.relations.specs.Sum.{row_of}
-use Rattle.relations.specs.Terms.{just, one_less}
-use Rattle.relations.specs.Script.{Script, answer, allocate, row, then, run, restored, over}
-use Rattle.boolean.specs.declared.mode.AllocationMode.{AllocationMode}
-use Rattle.boolean.specs.declared.mode.AllocationMode.TheVariants.{Constant as as_constant, Input as as_input, Witness as as_witness}
-use Rattle.boolean.specs.declared.bits.Boolean.{Boolean}
-use Rattle.boolean.specs.declared.bits.Boolean.TheVariants.{Constant, Var}
-use Rattle.allocated.specs.Gates.{bit_number}
-use Rattle.boolean.specs.Booleans.{alloc_script}
+use Rattle.relations.specs.Meaning.{Meaning, Fresh, Grows, has, assigned}
+use Rattle.relations.specs.Script.{run, restored, over}
 use Rattle.command.specs.declared.commands.Kind.{Kind}
 use Rattle.command.specs.declared.commands.Command.{Command}
-use Rattle.command.specs.declared.commands.Command.TheVariants.{Bit as BitCommand, Clone, Not, Gated, Kary as KaryCommand, IsEqual, Select, Enforce, AtMost}
 use Rattle.command.specs.declared.answers.Answer.{Answer}
-use Rattle.command.specs.declared.answers.Answer.TheVariants.{Bit}
 use Rattle.command.specs.declared.fault.TapeFault.{TapeFault}
 use Rattle.command.specs.declared.fault.TapeFault.TheVariants.{Gadget, Operand, Length, BookFull}
 use Rattle.command.specs.Decide.{fits, measured, answers, checked}
-use Rattle.command.specs.Answers.{kind_of, kinds, mode_of, value_of, command_script}
-use Rattle.laws.specs.Law.{Val, Given}
+use Rattle.command.specs.Answers.{kind_of, kinds, command_script}
+use Rattle.laws.specs.Law.{Val}
+use Rattle.laws.specs.Runs.{Assignment, values}
 use Rattle.laws.specs.History.{accepted, Each, Kept}
-use Rattle.laws.specs.Bill.{names, ends, settled, account}
-use Rattle.laws.proofs.Trace.{Keeps, allocated, enforced, refused as ruled}
+use Rattle.laws.specs.Bill.{names, names_with, ends, settled, account}
 use Rattle.laws.proofs.Frame.{sees_names}
-use Rattle.laws.proofs.Link.{run_grows}
-use Rattle.laws.proofs.Own.{assigned_grows, assigned_row}
+use Rattle.laws.proofs.Link.{run_grows, met_same}
+use Rattle.laws.proofs.Own.{assigned_grows}
 use Rattle.laws.proofs.Settle.{settles_ok, settles_err, ends_run}
-use Rattle.laws.proofs.Theorem.{start, step_refused, step_accepted, faithful, nums_same}
-use Rattle.bit_laws.specs.Bits.{bit_number_of}
+use Rattle.laws.proofs.Theorem.{start, step_refused, Obeyed, step_accepted, faithful, nums_same}
 use Rattle.readings.specs.Readings.{number_of, numbers_of, Reading, BoundedByKind, NamesThere}
 use Rattle.readings.specs.Decision.{bill, by_bill, by_check, Real}
 use Rattle.readings.specs.State.{State, state, filed, performed, executed}
-use Rattle.readings.specs.Runs.{History, entries, decided, begins, accepts, refuses, GivenBy, Tells, Running, Promise, Stepped}
-use Rattle.readings.proofs.CommandLaws.{Pre, Solvable, computed, Serves, served, local, wider}
-
--- ---- the tape's numbers
-answered_is : {A : Type 0} (x y : A) (m n : Meaning) → ◌≡◌ {A = Result A GadgetFault × Meaning} (Ok x, m) (Ok y, n) → x ≡ y
-answered_is {A} x y m n e = let q : ◌≡◌ {A = Result A GadgetFault} (Ok x) (Ok y) = ap (λ z. z.0) e in cc q
-
--- a new input or witness has the value that it was given
-given_new : (p : ℕ) (d : Side) (o : Option Bool) (m n : Meaning) (x : List Answer) (k : Variable → List Answer) → m.keeps ≡ true
-    → run p (allocate d [] (λ os. bit_number o) (λ v. row (one_less p v) (just v) [] (answer (k v)))) m ≡ (Ok x, n) → (v : Variable) × (x ≡ k v) × Given (bit_number o) (assigned n v)
-given_new p d o m n x k keeps ran =
-    let a = allocated d [] (λ os. bit_number o) (λ v. run p (row (one_less p v) (just v) [] (answer (k v)))) m n x ran in
-    let v = next_of d m in
-    let b = enforced p (one_less p v) (just v) [] (run p (answer (k v))) (with_new d a.value m) n x a.rest in
-    let q : Keeps true (bit_number o) a.value = subst (λ t. Keeps t (bit_number o) a.value) keeps a.keeps in
-    let same : assigned n v ≡ number a.value = ap (λ z. assigned z.1 v) (sym b.rest) ∙ ap (λ f. f v) (sym (assigned_row (row_of p (one_less p v) (just v) []) (with_new d a.value m))) ∙ last d a.value m in
-    (v, sym (answered_is (k v) x _ _ b.rest), subst (λ t. Given t (assigned n v)) (sym q.1) (sym (same ∙ ap number q.2)))
-  where
-    last : (d : Side) (w : Option ℕ) (m : Meaning) → assigned (with_new d w m) (next_of d m) ≡ number w
-    last input w m = ap number (get_or_at m.inputs w [] None (length m.inputs) refl)
-    last witness w m = ap number (get_or_at m.witnesses w [] None (length m.witnesses) refl)
-
--- what is said of a new bit's number
-abbrev Said : Option Bool → List ℕ → Type 0
-Said o [] = Unit {0}
-Said o (r ∷ rs) = Given (bit_number o) r
-
-said_one : (n : Meaning) (o : Option Bool) (b : Boolean) (os : List Answer) → os ≡ Bit b ∷ [] → Given (bit_number o) (bit_number_of (assigned n) b) → Said o (numbers_of (assigned n) os)
-said_one n o b os e h = subst (λ (l : List Answer). Said o (numbers_of (assigned n) l)) (sym e) h
-
-abbrev answered : Script Boolean → Script (List Answer)
-answered s = then s (λ b. answer (Bit b ∷ []))
-
-said_new : (p : ℕ) (a : AllocationMode) (o : Option Bool) (os : List Answer) (m n : Meaning) → m.keeps ≡ true → run p (answered (alloc_script p a o)) m ≡ (Ok os, n) → Said o (numbers_of (assigned n) os)
-said_new p as_constant None os m n keeps ran = absurd (ruled NoValue m n os ran)
-said_new p as_constant (Some x) os m n keeps ran = said_one n (Some x) (Constant x) os (sym (answered_is (Bit (Constant x) ∷ []) os m n ran)) refl
-said_new p as_input o os m n keeps ran = let r = given_new p input o m n os (λ v. Bit (Var (record { variable = v })) ∷ []) keeps ran in said_one n o (Var (record { variable = r.0 })) os r.1 r.2
-said_new p as_witness o os m n keeps ran = let r = given_new p witness o m n os (λ v. Bit (Var (record { variable = v })) ∷ []) keeps ran in said_one n o (Var (record { variable = r.0 })) os r.1 r.2
-
-pub given_by : (p : ℕ) (c : Command) (bk os : List Answer) (m n : Meaning) → m.keeps ≡ true → run p (command_script p c bk) m ≡ (Ok os, n) → GivenBy c (numbers_of (assigned n) os)
-given_by p (BitCommand mode v) bk os m n keeps ran = same (numbers_of (assigned n) os) (said_new p (mode_of mode) (value_of v) os m n keeps ran)
-  where
-    same : (rs : List ℕ) → Said (value_of v) rs → GivenBy (BitCommand mode v) rs
-    same [] h = tt
-    same (r ∷ rs) h = h
-given_by p (Clone a) bk os m n keeps ran = tt
-given_by p (Not a) bk os m n keeps ran = tt
-given_by p (Gated g a b) bk os m n keeps ran = tt
-given_by p (KaryCommand k r) bk os m n keeps ran = tt
-given_by p (IsEqual a b) bk os m n keeps ran = tt
-given_by p (Select c a b) bk os m n keeps ran = tt
-given_by p (Enforce e a b c) bk os m n keeps ran = tt
-given_by p (AtMost r e) bk os m n keeps ran = tt
+use Rattle.readings.specs.Runs.{History, entries, decided, begins, accepts, refuses, Tells, Running, Promise, Stepped}
+use Rattle.readings.proofs.Told.{given_by}
+use Rattle.readings.proofs.Seen.{sees_met}
+use Rattle.readings.proofs.Tables.{Pre, Solvable, computed, Serves}
+use Rattle.readings.proofs.CommandLaws.{served, local, wider}
 
 -- ---- the check before any gadget
 pub record Passed (c : Command) (bk : List Answer) (places : ℕ) (ks : List Kind) : Type 0 where
@@ -127,7 +63,7 @@ numbers_long ρ [] = refl
 numbers_long ρ (x ∷ xs) = ap (λ (n : ℕ). suc n) (numbers_long ρ xs)
 
 module _ (p : ℕ) (P : Prime p) (two : 2 < p) where
-  seen : (c : Command) (s : State) → Each (NamesThere (has s.system)) s.book → (ks : List Kind) → checked c (kinds s.book) s.places ≡ Ok ks → decided p c s ≡ by_bill ks (settled (bill p c s.book) s.system)
+  seen : (c : Command) (s : State) → Each (NamesThere (has s.system)) s.book → (ks : List Kind) → checked c (kinds s.book) s.places ≡ Ok ks → decided p c s ≡ by_bill ks (settled (bill p (assigned s.system) c s.book) s.system)
   seen c s t ks e = ap (by_check p c s.system s.book) e
 
   -- a command that is refused before any gadget
@@ -139,18 +75,18 @@ module _ (p : ℕ) (P : Prime p) (two : 2 < p) where
   barred h s c ks e l k q ran =
       ap (by_check p c s.system s.book) q
       ∙ ap (by_bill ks) (ap (λ b. settled b s.system) (sym ((served p P two c).billed s.system s.book k.real k.kept.book))
-      ∙ settles_err p (command_script p c s.book) s.system l e (λ t os. Each (NamesThere t) os) ((served p P two c).sees s.book (has s.system) (record { one = refl; zero = refl }) k.kept.book) ((served p P two c).steady s.book) ran)
+      ∙ settles_err p (command_script p c s.book) s.system l e (λ t os. Each (NamesThere t) os) ((served p P two c).sees s.book (has s.system) (record { one = refl; zero = refl }) k.kept.book) ((served p P two c).foreseen s.book (has s.system) (assigned s.system) (record { one = refl; zero = refl }) k.kept.book) ran)
 
   -- and of one that is accepted
-  cleared : (h : History) (s : State) (c : Command) (os : List Answer) (n : Meaning) → Running p h s → run p (command_script p c s.book) s.system ≡ (Ok os, n) → settled (bill p c s.book) s.system ≡ Ok (account n)
+  cleared : (h : History) (s : State) (c : Command) (os : List Answer) (n : Meaning) → Running p h s → run p (command_script p c s.book) s.system ≡ (Ok os, n) → settled (bill p (assigned s.system) c s.book) s.system ≡ Ok (account n)
   cleared h s c os n k ran =
       ap (λ b. settled b s.system) (sym ((served p P two c).billed s.system s.book k.real k.kept.book))
-      ∙ settles_ok p (command_script p c s.book) s.system n os (λ t os. Each (NamesThere t) os) ((served p P two c).sees s.book (has s.system) (record { one = refl; zero = refl }) k.kept.book) ((served p P two c).steady s.book) ran
+      ∙ settles_ok p (command_script p c s.book) s.system n os (λ t os. Each (NamesThere t) os) ((served p P two c).sees s.book (has s.system) (record { one = refl; zero = refl }) k.kept.book) ((served p P two c).foreseen s.book (has s.system) (assigned s.system) (record { one = refl; zero = refl }) k.kept.book) ran
 
   pub running_refused : (h : History) (s : State) (c : Command) (f : TapeFault) → Running p h s → decided p c s ≡ Err f → Running p ((c, Err f) ∷ h) s
   running_refused h s c f k e = record {
     run = refuses c f k.run e;
-    kept = step_refused p P.0 number_of NamesThere BoundedByKind Reading c (entries h) s.system s.book k.kept;
+    kept = step_refused p P.0 number_of NamesThere (BoundedByKind p) (Reading p) c (entries h) s.system s.book k.kept;
     real = k.real;
     told = k.told;
   }
@@ -159,17 +95,16 @@ module _ (p : ℕ) (P : Prime p) (two : 2 < p) where
   running_accepted h s c ks os n k q ran = record {
     run = accepts c ks (state n (s.book ++ os) s.places) k.run (ap (by_check p c m bk) q ∙ ap (by_bill ks) (cleared h s c os n k ran))
         (record { system = grows; paid = cleared h s c os n k ran; answers = os; book = refl; kinds_are = same_kinds; places_are = refl });
-    kept = subst (λ (j : ℕ). Kept p number_of NamesThere BoundedByKind Reading (accepted c j ∷ entries h) n (bk ++ os)) many
-        (step_accepted p P.0 number_of NamesThere BoundedByKind Reading local wider (command_script p) Pre Solvable computed (λ d. (served p P two d).law)
-        (λ d b h k t. sees_names h (command_script p d b) (λ k os. Each (NamesThere k) os) ((served p P two d).sees b h k t)) (λ d b. (served p P two d).tidy b) (λ d b o m n r. (served p P two d).bounded b o) (λ d g b o m n r xs a y. (served p P two d).pre b xs a) c (entries h) m n bk os k.kept ran);
-    real = each_append Real bk os k.real (of_c.real m (names n) bk os k.real k.kept.book ended);
+    kept = subst (λ (j : ℕ). Kept p number_of NamesThere (BoundedByKind p) (Reading p) (accepted c j ∷ entries h) n (bk ++ os)) many
+        (step_accepted p P.0 number_of NamesThere (BoundedByKind p) (Reading p) local wider c (entries h) m n bk os (command_script p c bk) (Pre p c) (Solvable p c) (computed p c) obeyed k.kept ran);
+    real = each_append Real bk os k.real (of_c.real m (names_with (assigned m) n) bk os k.real k.kept.book ended);
     told = λ keeps. (
       numbers_of (assigned n) bk,
       numbers_of (assigned n) os,
       numbers_append (assigned n) bk os,
       numbers_long (assigned n) os ∙ many,
-      given_by p c bk os m n (kept_so keeps) ran,
-      subst (Tells h) (sym (nums_same number_of NamesThere local (has m) (assigned m) (assigned n) (assigned_grows m n grows) bk k.kept.book)) (k.told (kept_so keeps)),
+      given_by p above c bk os m n (kept_so keeps) ran,
+      subst (Tells p h) (sym (nums_same number_of NamesThere local (has m) (assigned m) (assigned n) (assigned_grows m n grows) bk k.kept.book)) (k.told (kept_so keeps)),
     );
   }
     where
@@ -185,14 +120,29 @@ module _ (p : ℕ) (P : Prime p) (two : 2 < p) where
       kept_so : n.keeps ≡ true → s.system.keeps ≡ true
       kept_so keeps = sym (run_grows p (command_script p c s.book) s.system n os ran).keeps_is ∙ keeps
 
-      of_c : Serves p P two c
+      of_c : Serves p c
       of_c = served p P two c
 
-      ended : ends p (names s.system) (command_script p c s.book) ≡ Some (os, names n)
+      above : 0 < p
+      above = omega (arith, two)
+
+      fit : fits c (kinds s.book) ≡ true
+      fit = (passed c s.book s.places ks q).fit
+
+      obeyed : Obeyed p number_of NamesThere (BoundedByKind p) s.book (command_script p c s.book) (Pre p c) (Reading p c) (Solvable p c) (computed p c)
+      obeyed = record {
+        law = (served p P two c).law s.book fit;
+        names = λ h k t. sees_names h (command_script p c s.book) (λ k os. Each (NamesThere k) os) ((served p P two c).sees s.book h k t);
+        tidy = (served p P two c).tidy s.book;
+        kinds = λ os l n r old new a g o. (served p P two c).bounded s.book os old new fit ((served p P two c).kinds_are (names l) (names_with (assigned l) n) s.book os fit (ends_run p (command_script p c s.book) l n os r)) a g o;
+        pre = λ xs a. (served p P two c).pre s.book xs fit a;
+      }
+
+      ended : ends p (names s.system) (command_script p c s.book) ≡ Some (os, names_with (assigned s.system) n)
       ended = ends_run p (command_script p c s.book) s.system n os ran
 
       same_kinds : kinds os ≡ ks
-      same_kinds = let good = passed c s.book s.places ks q in of_c.kinds_are (names s.system) (names n) s.book os good.fit ended ∙ sym good.are
+      same_kinds = let good = passed c s.book s.places ks q in of_c.kinds_are (names s.system) (names_with (assigned s.system) n) s.book os good.fit ended ∙ sym good.are
 
       many : length os ≡ length ks
       many = sym (length-map os kind_of) ∙ ap length same_kinds
@@ -201,14 +151,27 @@ module _ (p : ℕ) (P : Prime p) (two : 2 < p) where
   pub room_of : (c : Command) (m n : Meaning) (bk os : List Answer) (places : ℕ) (ks : List Kind) → checked c (kinds bk) places ≡ Ok ks → run p (command_script p c bk) m ≡ (Ok os, n) → length bk + length os ≤ places
   room_of c m n bk os places ks q ran =
       let good = passed c bk places ks q in
-      let same = (served p P two c).kinds_are (names m) (names n) bk os good.fit (ends_run p (command_script p c bk) m n os ran) in
+      let same = (served p P two c).kinds_are (names m) (names_with (assigned m) n) bk os good.fit (ends_run p (command_script p c bk) m n os ran) in
       omega (arith, good.room, ap length same, length-map os kind_of, length-map bk kind_of)
 
   -- what runs keep is what they promise
   pub promised : (h : History) (s : State) → Running p h s → Promise p h s
   promised h s k =
-      let f = faithful p P.0 number_of NamesThere BoundedByKind Reading local (entries h) s.system s.book k.kept in
-      record { outcomes = k.run; sound = f.sound; complete = f.complete; own = f.own; told = k.told }
+      let f = faithful p P.0 number_of NamesThere (BoundedByKind p) (Reading p) local (entries h) s.system s.book k.kept in
+      record {
+        outcomes = k.run;
+        sound = f.sound;
+        complete = f.complete;
+        own = f.own;
+        told = λ q. subst (Tells p h) (sym (nums_same number_of NamesThere local (has s.system) (assigned s.system) (values s.system (f.own q).assignment) (f.own q).agrees s.book k.kept.book)) (k.told q);
+        seen = λ q.
+            let o = f.own q in
+            let a : Assignment p s.system = o.assignment in
+            let met = sees_met p s.system k.kept.proper.rows q in (
+              λ e. o.obeys (met_same p (has s.system) (assigned s.system) (values s.system a) o.agrees s.system.rows k.kept.proper.rows (met.0 e)),
+              λ b. met.1 (met_same p (has s.system) (values s.system a) (assigned s.system) (λ v t. sym (o.agrees v t)) s.system.rows k.kept.proper.rows (o.meets b)),
+            );
+      }
 
   pub stepped : (h : History) (c : Command) (s t : State) (r : Result (Unit {0}) TapeFault) → executed p c s ≡ (r, t) → Running p h s → Stepped p h c s t r
   stepped h c s t r e k = by_checked (checked c (kinds s.book) s.places) refl e
@@ -246,7 +209,7 @@ module _ (p : ℕ) (P : Prime p) (two : 2 < p) where
   pub running_begins : (s : State) → Fresh s.system → s.book ≡ [] → Running p [] s
   running_begins s f e = record {
     run = begins s f e;
-    kept = subst (Kept p number_of NamesThere BoundedByKind Reading [] s.system) (sym e) (start p P.0 number_of NamesThere BoundedByKind Reading s.system f);
+    kept = subst (Kept p number_of NamesThere (BoundedByKind p) (Reading p) [] s.system) (sym e) (start p P.0 number_of NamesThere (BoundedByKind p) (Reading p) s.system f);
     real = subst (Each Real) (sym e) tt;
     told = λ q. tt;
   }

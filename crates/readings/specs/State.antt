@@ -17,6 +17,7 @@ pub record State : Type 0 where
   pub book : List Answer
   pub places : ℕ
 
+-- a system, a book and its places together
 abbrev pub state : Meaning → List Answer → ℕ → State
 state m book n = record { system = m; book = book; places = n }
 
@@ -25,6 +26,7 @@ abbrev pub filed : State → Result (List Answer) GadgetFault → Meaning → Re
 filed s (Ok os) n = (Ok tt, state n (s.book ++ os) s.places)
 filed s (Err e) n = (Err (Gadget e), state n s.book s.places)
 
+-- what a command does once it is checked: its gadget's call, or nothing where the check refuses
 abbrev pub performed : ℕ → Command → State → Result (List Kind) TapeFault → Result (Unit {0}) TapeFault × State
 performed p c s (Ok ks) = filed s (whole (run p (command_script p c s.book)) s.system).0 (whole (run p (command_script p c s.book)) s.system).1
 performed p c s (Err f) = (Err f, s)
