@@ -1,8 +1,9 @@
 -- A tape's commands one after another.
-use Rattle.command.specs.Tape.{bytes, spelled, decoded}
+use Rattle.command.specs.declared.decoding.Shape.{Shape}
+use Rattle.command.specs.Tape.{length_of, shape_of, shaped, spelled, decoded}
 use Rattle.command.specs.declared.commands.Decoded.{Decoded}
 use Rattle.readings.proofs.OnBook.{none_some}
-use Rattle.std.proofs.Common.{◌≡◌, ℕ, ◌+◌, ◌-◌, ◌<◌, ◌≤◌, Bool, true, false, cond, ◌&&◌, ltb, List, [], ◌∷◌, ◌++◌, length, take, drop, Some, None, Ok, Err, Option, Result, sym, refl, ap, ◌∙◌, subst, append_assoc, append-nil, arith, length-drop, le-ltb, lt-ltb, eqb, leb, get_or, leb-true}
+use Rattle.std.proofs.Common.{◌≡◌, ℕ, ◌+◌, ◌-◌, ◌<◌, ◌≤◌, Bool, true, false, cond, ◌&&◌, ltb, List, [], ◌∷◌, ◌++◌, length, take, drop, Some, None, Ok, Err, Option, Result, sym, refl, ap, ◌∙◌, subst, append_assoc, append-nil, arith, length-drop, le-ltb, lt-ltb, leb, get_or, leb-true}
 use Rattle.std.proofs.lemmas.List.{take_all, drop-drop}
 use Rattle.relations.specs.Script.{over}
 use Rattle.command.specs.declared.commands.Kind.{Kind}
@@ -34,15 +35,18 @@ unnoted n (Err f) before middle e b = none_ok e
 
 -- a command that is decoded is there with all its bytes
 pub decoded_there : (bs : List ℕ) (d : Decoded) → decoded bs ≡ Some d → d.length ≤ length bs
-decoded_there bs d e = go (eqb (bytes (get_or bs 0 0)) 0) (leb (bytes (get_or bs 0 0)) (length bs)) refl e
+decoded_there bs d e = by_shape (shape_of (get_or bs 0 0)) e
   where
-    made : Decoded
-    made = record { command = spelled (get_or bs 0 0) bs; length = bytes (get_or bs 0 0) }
+    by_shape : (o : Option Shape) → shaped o bs ≡ Some d → d.length ≤ length bs
+    by_shape None q = none_some q
+    by_shape (Some s) q = go (leb (length_of s) (length bs)) refl q
+      where
+        made : Decoded
+        made = record { command = spelled s (get_or bs 0 0) bs; length = length_of s }
 
-    go : (a b : Bool) → leb (bytes (get_or bs 0 0)) (length bs) ≡ b → cond {A = Option Decoded} a None (cond b (Some made) None) ≡ Some d → d.length ≤ length bs
-    go true b l q = none_some q
-    go false true l q = let same : made ≡ d = cc q in subst (λ (x : Decoded). x.length ≤ length bs) same (leb-true _ _ l)
-    go false false l q = none_some q
+        go : (b : Bool) → leb (length_of s) (length bs) ≡ b → cond {A = Option Decoded} b (Some made) None ≡ Some d → d.length ≤ length bs
+        go true l q = let same : made ≡ d = cc q in subst (λ (x : Decoded). x.length ≤ length bs) same (leb-true _ _ l)
+        go false l q = none_some q
 
 lines_more : (e : Result (List Kind) TapeFault) (c : _) (h : History) → lines ((c, e) ∷ h) ≡ lines h ++ outcome_line (length h) e
 lines_more (Ok ks) c h = sym (append-nil (lines h))

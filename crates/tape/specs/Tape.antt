@@ -15,6 +15,7 @@ pub data Reads (tape : List ℕ) : History → ℕ → Type 0 where
   nothing : Reads tape [] 0
   further : {h : History} {at : ℕ} (d : Decoded) (o : Result (List Kind) TapeFault) → Reads tape h at → decoded (drop at tape) ≡ Some d → Reads tape ((d.command, o) ∷ h) (at + d.length)
 
+-- the line of a command that is refused with a fault
 abbrev pub line : ℕ → TapeFault → Refused
 line n f = record { command = n; refusal = of_tape f }
 

@@ -1,9 +1,10 @@
 use boolean::{BooleanCall, BooleanStatement};
 use command::{Answer, Kary, Range};
+use fp_var::{FpCall, FpQuestion, FpStatement};
 
 // An enum, and not a closure, as `BooleanCall` is: the script of a command is a function of it.
-/// What a command asks for, its operands looked up: an answer that is there already, a call or a statement on bits, or one on many bits, which are
-/// looked up where it is made.
+/// What a command asks for, its operands looked up: an answer that is there already, a call or a statement on bits, one on many bits, which are
+/// looked up where it is made, or a call, a question or a statement on numbers.
 #[derive(Clone, Copy)]
 pub(crate) enum Action {
     Alias(Answer),
@@ -11,4 +12,7 @@ pub(crate) enum Action {
     Claim(BooleanStatement),
     Kary(Kary, Range),
     AtMost(Range, u64),
+    Numbers(FpCall),
+    Question(FpQuestion),
+    NumberClaim(FpStatement),
 }

@@ -7,6 +7,7 @@ ghost use Rattle.command.specs.Listed.{listed};
 use boolean::Boolean;
 use command::{Answer, Answers, Kary};
 use field::Field;
+use fp_var::FpVar;
 use gates::Members;
 use relations::{GadgetFault, System};
 
@@ -15,6 +16,13 @@ pub(crate) fn one_bit(bit: Result<Boolean, GadgetFault>) -> Result<Answers, Gadg
     ensures { over listed result ≡ over (λ b. Answer.Bit b ∷ []) bit }
 {
     Ok(Answers::one(Answer::Bit(bit?)))
+}
+
+/// A number as the one answer of a command.
+pub(crate) fn one_number(number: Result<FpVar, GadgetFault>) -> Result<Answers, GadgetFault>
+    ensures { over listed result ≡ over (λ x. Answer.Number x ∷ []) number }
+{
+    Ok(Answers::one(Answer::Number(number?)))
 }
 
 /// No answer, where a statement is accepted.

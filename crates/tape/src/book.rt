@@ -2,6 +2,7 @@ ghost use Rattle.std.specs.Prelude.{◌≤◌, length};
 
 use boolean::Boolean;
 use command::{Answer, Kind, Kinds, Range, TapeFault};
+use fp_var::FpVar;
 
 /// The answers so far, in the order in which they came, over a lent slice: as many places as it has, and at most 4,096.
 // A slice and the count of its used places, and not a vector: the places of a book are lent by the caller of a run, and a book never allocates.
@@ -19,7 +20,7 @@ impl<'a> Book<'a> {
     ghost use Rattle.std.specs.Prelude.{◌≡◌, ◌+◌, true, min, [], ◌++◌, length, take, if◌then◌else◌, nat_le};
     ghost use Rattle.std.specs.Result.{is_ok};
     ghost use Rattle.command.specs.Decide.{short};
-    ghost use Rattle.command.specs.Answers.{answer_at, bit_at, bits_at};
+    ghost use Rattle.command.specs.Answers.{answer_at, bit_at, number_at, bits_at};
     ghost use Rattle.tape.specs.Book.{held_by, places_of};
 
     /// An empty book over a lent slice.
@@ -59,12 +60,24 @@ impl<'a> Book<'a> {
         self.held().get(a as usize).copied().unwrap_or(constant)
     }
 
-    /// The bit with a number.
+    /// The bit with a number; an answer that is none stands for a constant.
     pub fn bit(&self, a: u32) -> Boolean
         ensures { result ≡ bit_at (held_by self.now) a }
     {
-        let Answer::Bit(bit) = self.get(a);
-        bit
+        match self.get(a) {
+            Answer::Bit(bit) => bit,
+            Answer::Number(_) => Boolean::Constant(false),
+        }
+    }
+
+    /// The answer with a number as a number of the circuit; one that is a bit stands for a constant.
+    pub fn number(&self, a: u32) -> FpVar
+        ensures { result ≡ number_at (held_by self.now) a }
+    {
+        match self.get(a) {
+            Answer::Bit(_) => FpVar::Constant(0),
+            Answer::Number(number) => number,
+        }
     }
 
     /// The bits of a range of at most 64 answers; what stands behind them is not said.

@@ -2,55 +2,23 @@ ghost use Rattle.std.specs.Prelude.{◌≡◌, true};
 ghost use Rattle.relations.specs.Meaning.{Ran, Adds, Leaves};
 ghost use Rattle.relations.specs.Script.{run, whole, over};
 ghost use Rattle.command.specs.Listed.{listed};
-ghost use Rattle.tape.specs.Action.{action as action_of, short_enough, action_script};
+ghost use Rattle.tape.specs.Action.{short_enough, action_script};
 ghost use Rattle.tape.specs.Book.{held_by};
 ghost use Rattle.readings.specs.State.{executed};
 ghost use Rattle.readings.specs.Runs.{History, Running, Stepped, Unchanged};
 ghost use Rattle.tape.specs.State.{state_of};
 
 use crate::action::Action;
-use crate::answering::{kary, no_answer, one_bit};
+use crate::answering::{kary, no_answer, one_bit, one_number};
 use crate::book::Book;
 use crate::circuit::Circuit;
-use boolean::{BooleanCall, BooleanStatement};
-use command::{Answers, Claim, Command, TapeFault, check, mode_of, value_of};
+use crate::resolving::resolve;
+use command::{Answers, Command, TapeFault, check};
 use field::Field;
 use gates::KaryStatement;
 use relations::{GadgetFault, System, call};
 
-// Matches, here and in `perform`, and no table of functions: what a command asks for is data, as its definition is.
-/// What a command asks for, its operands looked up in the book.
-fn resolve(command: Command, book: &Book) -> Action
-    ensures { result ≡ action_of command (held_by book.now) }
-{
-    match command {
-        Command::Bit(mode, value) => {
-            Action::Bits(BooleanCall::Allocate(mode_of(mode), value_of(value)))
-        }
-        Command::Clone(a) => Action::Alias(book.get(a)),
-        Command::Not(a) => Action::Bits(BooleanCall::Not(book.bit(a))),
-        Command::Gated(gate, a, b) => {
-            Action::Bits(BooleanCall::Gated(gate, book.bit(a), book.bit(b)))
-        }
-        Command::Kary(kary, range) => Action::Kary(kary, range),
-        Command::IsEqual(a, b) => Action::Bits(BooleanCall::Equality(book.bit(a), book.bit(b))),
-        Command::Select(c, a, b) => {
-            Action::Bits(BooleanCall::Choice(book.bit(c), book.bit(a), book.bit(b)))
-        }
-        Command::Enforce(Claim::Equal, a, b, c) => Action::Claim(BooleanStatement::Equal(
-            book.bit(a),
-            book.bit(b),
-            book.bit(c),
-        )),
-        Command::Enforce(Claim::Unequal, a, b, c) => Action::Claim(BooleanStatement::Unequal(
-            book.bit(a),
-            book.bit(b),
-            book.bit(c),
-        )),
-        Command::AtMost(range, element) => Action::AtMost(range, element),
-    }
-}
-
+// A match, and no table of functions: what a command asks for is data, as its definition is.
 /// The gadget's call that a command asks for.
 fn perform<F: Field, S: System<F>>(
     cs: &mut S,
@@ -77,6 +45,9 @@ fn perform<F: Field, S: System<F>>(
                 cs,
             ))
         }
+        Action::Numbers(gadget) => one_number(call(&gadget, cs)),
+        Action::Question(question) => one_bit(call(&question, cs)),
+        Action::NumberClaim(statement) => no_answer(call(&statement, cs)),
     }
 }
 
@@ -94,7 +65,7 @@ pub fn execute<F: Field, S: System<F>>(
 {
     let places = circuit.book.places();
     check(command, &circuit.book, places)?;
-    let action = resolve(command, &circuit.book);
+    let action = resolve::<F>(command, &circuit.book);
     let answers = perform(&mut circuit.system, action, &circuit.book)?;
     // No refusal comes from here: the check has found places for all answers.
     circuit.book.extend(answers.as_slice())

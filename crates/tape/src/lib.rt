@@ -5,6 +5,7 @@ mod answering;
 mod book;
 mod circuit;
 mod executing;
+mod resolving;
 mod running;
 
 pub use book::Book;

@@ -77,4 +77,4 @@ perform-requires g c =
     let b = c.args.circuit.now.book in
     let ok : ◌≡◌ {A = Result (Unit {0}) TapeFault} (Ok tt) (over (λ _. tt) (checked c.args.command (kinds (held_by b)) (places_of b))) =
     c.in_ok-check.ensures ∙ ap (λ k. over (λ _. tt) (checked c.args.command (kinds (held_by b)) k)) c.places-places.ensures in
-    ap short_enough c.resolve-action.ensures ∙ ranges_short c.args.command (held_by b) (places_of b) ok
+    ap short_enough c.resolve-action.ensures ∙ ranges_short g.F.Field.modulus c.args.command (held_by b) (places_of b) ok
