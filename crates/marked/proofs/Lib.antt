@@ -1,0 +1,5 @@
+mod Rooms
+mod Owed
+mod Walk
+mod Replies
+mod Decided
