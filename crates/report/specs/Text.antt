@@ -13,6 +13,7 @@ name_text inputs k =
     cond (k == 0) (codes "one")
     (cond (nat_le k inputs) (codes "i" ++ decimal (k - 1)) (codes "w" ++ decimal (k - 1 - inputs)))
 
+-- a coefficient and the name of its variable
 abbrev pub term_text : ℕ → ℕ → ℕ → List ℕ
 term_text inputs k coefficient = decimal coefficient ++ (codes " " ++ name_text inputs k)
 
@@ -30,25 +31,31 @@ abbrev pub joined_terms : List (List ℕ) → List ℕ
 joined_terms [] = codes "0"
 joined_terms (t ∷ ts) = t ++ more_terms ts
 
+-- a sum, from the coefficients of all variables
 abbrev pub sum_text : ℕ → List ℕ → List ℕ
 sum_text inputs cs = joined_terms (term_texts inputs 0 cs)
 
 -- ---- rows
+-- a row: its three sums
 abbrev pub row_text : ℕ → List ℕ → List ℕ → List ℕ → List ℕ
 row_text inputs a b c =
     sum_text inputs a ++ (codes " ; " ++ (sum_text inputs b ++ (codes " ; " ++ (sum_text inputs c ++ codes "\n"))))
 
 -- ---- the other lines
+-- the line of a refusal
 abbrev pub refusal_text : Refused → List ℕ
 refusal_text r = refused_text r ++ codes "\n"
 
+-- the lines of all refusals
 abbrev pub refusals_text : List Refused → List ℕ
 refusals_text rs = flat_map refusal_text rs
 
+-- the line of the counts
 abbrev pub counts_text : ℕ → ℕ → ℕ → List ℕ
 counts_text inputs witnesses rows =
     codes "inputs " ++ (decimal inputs ++ (codes " witnesses " ++ (decimal witnesses ++ (codes " rows " ++ (decimal rows ++ codes "\n")))))
 
+-- the last line
 abbrev pub verdict_text : Verdict → List ℕ
 verdict_text Met = codes "met\n"
 verdict_text (Unmet k) = codes "unmet " ++ (decimal k ++ codes "\n")
@@ -60,6 +67,7 @@ pub record Sums : Type 0 where
   pub right : List ℕ
   pub product : List ℕ
 
+-- the lines of all rows
 abbrev pub rows_text : ℕ → List Sums → List ℕ
 rows_text inputs ss = flat_map (λ s. row_text inputs s.left s.right s.product) ss
 
@@ -70,6 +78,7 @@ pub record Page : Type 0 where
   pub rows : List Sums
   pub verdict : Verdict
 
+-- the text of a report: refusals, counts, rows, last line
 abbrev pub report_text : List Refused → Page → List ℕ
 report_text refused page =
     refusals_text refused

@@ -1,13 +1,15 @@
 // The text that a run prints: a line for each refusal, the counts, a line for each row, and the verdict.
-// What appends to a text is inner to this crate: where memory is wanting it gives an `AllocError`, and the text that it has
-// begun is dropped by `report`, which hands out whole texts alone.
+// Where memory is wanting, what appends to a text gives an `AllocError`, and how much it has appended is not said: such a text is to be
+// dropped, as `report` does, which hands out whole texts alone.
 #![tactic(auto)]
 
 mod lines;
 mod sheet;
 mod sums;
 
+pub use lines::{push_counts, push_refusals};
 pub use sheet::report;
+pub use sums::push_sum;
 
 #[cfg(test)]
 mod tests;

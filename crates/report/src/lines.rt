@@ -45,7 +45,7 @@ impl Display for LastLine {
 }
 
 /// Appends a line for each refusal, in their order: `refused 4 2 1` for the command 4, refused with the number 2 by the layer 1.
-pub(crate) fn push_refusals(text: &mut String, refusals: &[Refused]) -> Result<(), AllocError>
+pub fn push_refusals(text: &mut String, refusals: &[Refused]) -> Result<(), AllocError>
     ensures { OnOk result (string_bytes text.new ≡ string_bytes text.old ++ refusals_text refusals.now) }
 {
     push_shown(text, Refusals(refusals))
@@ -53,7 +53,7 @@ pub(crate) fn push_refusals(text: &mut String, refusals: &[Refused]) -> Result<(
 
 // No type of its own: the three counts are shown in this one line, and `format_args!` is a `Display` already.
 /// Appends the line `inputs 0 witnesses 3 rows 3`.
-pub(crate) fn push_counts(
+pub fn push_counts(
     text: &mut String,
     inputs: usize,
     witnesses: usize,

@@ -83,11 +83,7 @@ impl Display for Sum<'_> {
 
 /// Appends a sum by its coefficients, that of one first, then those of the inputs, then those of the witnesses: `1 one + 100 w0`.
 /// Zero coefficients are left out, and a sum of none is `0`.
-pub(crate) fn push_sum(
-    text: &mut String,
-    coefficients: &[u32],
-    inputs: usize,
-) -> Result<(), AllocError>
+pub fn push_sum(text: &mut String, coefficients: &[u32], inputs: usize) -> Result<(), AllocError>
     ensures { OnOk result (string_bytes text.new ≡ string_bytes text.old ++ sum_text inputs coefficients.now) }
 {
     let sum = Sum {

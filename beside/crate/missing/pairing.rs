@@ -1,0 +1,2 @@
+//! In place of the crate's pairings: the name that its lib.rs passes on.
+pub trait PairingVar {}

@@ -1,0 +1,1 @@
+//! In place of the crate's polynomials. No command uses them.
