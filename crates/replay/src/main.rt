@@ -1,5 +1,5 @@
 // Runs each tape of the files in data/ over the field with 101 elements, as rows101 does, and holds the text to the lines that stand below
-// it. A block of that file is a line `tape` with the bytes in hexadecimal, the expected text, and a line `---`. The blocks were made by a
+// it. A block of such a file is a line `tape` with the bytes in hexadecimal, the expected text, and a line `---`. The blocks were made by a
 // program that computes the text from the rules in docs/TAPE.md and docs/CALLS.md, and shares no code with these crates.
 #![tactic(auto)]
 
@@ -59,5 +59,6 @@ fn replay(rt: &HostRuntime, heap: Global, file: &str) -> io::Result<()> {
 fn main(rt: HostRuntime) -> io::Result<()> {
     let heap = rt.alloc();
     replay(&rt, heap, "first-bits.txt")?;
-    replay(&rt, heap, "bits.txt")
+    replay(&rt, heap, "bits.txt")?;
+    replay(&rt, heap, "numbers.txt")
 }
