@@ -11,3 +11,5 @@ mod select;
 mod statements;
 
 pub use numbers::{FpCall, FpQuestion, FpStatement, FpVar};
+pub use pieces::scaled;
+pub use statements::holding;

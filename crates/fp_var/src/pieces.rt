@@ -69,7 +69,7 @@ pub(crate) fn constant_lc<F: Field, S: System<F>>(
 }
 
 /// A variable times a constant: the variable itself where the constant is 1.
-pub(crate) fn scaled<F: Field, S: System<F>>(
+pub fn scaled<F: Field, S: System<F>>(
     c: u32,
     v: Variable,
     cs: &mut S,

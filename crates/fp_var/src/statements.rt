@@ -12,7 +12,7 @@ use field::Field;
 use relations::{GadgetFault, Side, System, Variable, just, less};
 
 /// A statement on constants alone: nothing where it holds, else a refusal.
-fn holding(holds: bool) -> Result<(), GadgetFault>
+pub fn holding(holds: bool) -> Result<(), GadgetFault>
     ensures { (p : ℕ) → (m : Meaning) → run p (holding_script holds) m ≡ (result, m) }
 {
     if holds {

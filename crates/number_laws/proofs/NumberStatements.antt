@@ -89,7 +89,7 @@ equal_row_says p P ρ low c x y hc =
 
 -- ---- parts of statements. Of the numbers at of the operands they say R, where these are as P says
 module _ (p : ℕ) (Pr : Prime p) {X : Type 0} {at : Val → X} (P R : X → Type 0) where
-  holding_fixes : (t : Bool) → (t ≡ true → (ρ : Val) → P (at ρ) → R (at ρ)) → Fixes p at nothing (holding t) P R (λ x. tt)
+  pub holding_fixes : (t : Bool) → (t ≡ true → (ρ : Val) → P (at ρ) → R (at ρ)) → Fixes p at nothing (holding t) P R (λ x. tt)
   holding_fixes true f = fixes_answer tt P R (λ x. tt) (λ ρ low h. (f refl ρ h, refl))
   holding_fixes false f = fixes_refuse Unsatisfiable P R (λ x. tt)
 
@@ -123,7 +123,7 @@ module _ (p : ℕ) (Pr : Prime p) {X : Type 0} {at : Val → X} (P R : X → Typ
       (λ ρ low h. let k = is ρ h in let s = same_says p (ρ c.variable) (ρ m) (ρ One) Pr.0 (low.low c.variable) (low.low m) low.one in (λ r. k.1.0 (s.0 r), λ q. s.1 (k.1.1 q))) (λ ρ low h. refl)
 
   -- a constant below p is a number
-  constant_is_fixes : (m : ℕ) (c : FpVar) → m < p → ((ρ : Val) → P (at ρ) → (fp_number_of ρ c < p) × ((m ≡ fp_number_of ρ c) ↔ R (at ρ))) → Fixes p at nothing (constant_is p m c) P R (λ x. tt)
+  pub constant_is_fixes : (m : ℕ) (c : FpVar) → m < p → ((ρ : Val) → P (at ρ) → (fp_number_of ρ c < p) × ((m ≡ fp_number_of ρ c) ↔ R (at ρ))) → Fixes p at nothing (constant_is p m c) P R (λ x. tt)
   constant_is_fixes m (Constant c) lm is = holding_fixes (same_constants p m c) (λ t ρ h. let k = is ρ h in k.1.0 (true-eqb m c (sym (sym (same_below p m c lm k.0) ∙ t))))
   constant_is_fixes m (Var c) lm is = variable_is_constant_fixes m c.variable (λ ρ h. let k = is ρ h in let e : m % p ≡ m = mod-eq_of_lt lm in (λ q. k.1.0 (sym e ∙ q), λ s. e ∙ k.1.1 s))
 

@@ -32,7 +32,7 @@ use Rattle.number_laws.proofs.NumberSizes.{constant_size, OldFp, old_fp_later, n
 
 module _ (p : ℕ) (two : 2 < p) (n : Next) where
   -- ---- parts
-  holding_owes : (t : Bool) → Owes p n (holding t) unit Any (holding_due t)
+  pub holding_owes : (t : Bool) → Owes p n (holding t) unit Any (holding_due t)
   holding_owes true = owes_answer tt unit Any tt refl tt
   holding_owes false = owes_refuse Unsatisfiable unit Any
 
@@ -64,7 +64,7 @@ module _ (p : ℕ) (two : 2 < p) (n : Next) where
       go true = refl
       go false = refl
 
-  constant_is_owes : (m : ℕ) (c : FpVar) → OldFp n c → Owes p n (constant_is p m c) unit Any (constant_is_due p m (number_shadow c))
+  pub constant_is_owes : (m : ℕ) (c : FpVar) → OldFp n c → Owes p n (constant_is p m c) unit Any (constant_is_due p m (number_shadow c))
   constant_is_owes m (Constant c) h = holding_owes (same_constants p m c)
   constant_is_owes m (Var c) h = variable_is_constant_owes m c.variable h
 

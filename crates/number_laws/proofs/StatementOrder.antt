@@ -42,7 +42,7 @@ orderly_foreseen {p} {In} {Out} {g} a h q i = steady_foreseen h q (g i) (a.stead
 
 module _ (p : ℕ) where
   -- ---- parts of statements: their operands are as KI says of what is there
-  holding_neat : (t : Bool) (KI : There → Type 0) → Neat p (holding t) KI Silent
+  pub holding_neat : (t : Bool) (KI : There → Type 0) → Neat p (holding t) KI Silent
   holding_neat true KI = neat_answer tt KI Silent (λ h k. tt)
   holding_neat false KI = neat_refuse Unsatisfiable KI Silent
 
@@ -53,7 +53,7 @@ module _ (p : ℕ) where
   variable_is_neat m (Constant c) = neat_on (λ h. Has m h × ThereFp h (Constant c)) (λ h t. t.0) (variable_is_constant_neat c m)
   variable_is_neat m (Var c) = row_neat p (λ h. Has m h × ThereFp h (Var c)) (less p c.variable m) (just One) [] (λ h z t. ((t.1, (t.0, tt)), (z.one, tt), tt))
 
-  constant_is_neat : (m : ℕ) (c : FpVar) → Neat p (constant_is p m c) (λ h. ThereFp h c) Silent
+  pub constant_is_neat : (m : ℕ) (c : FpVar) → Neat p (constant_is p m c) (λ h. ThereFp h c) Silent
   constant_is_neat m (Constant c) = holding_neat (same_constants p m c) (λ h. ThereFp h (Constant c))
   constant_is_neat m (Var c) = variable_is_constant_neat m c.variable
 

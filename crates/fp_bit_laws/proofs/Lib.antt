@@ -1,0 +1,15 @@
+pub mod Spelling
+pub mod Joining
+pub mod Splitting
+pub mod NumberBits
+pub mod Gathering
+pub mod TopBits
+pub mod LowestBit
+pub mod Ordering
+pub mod BitsOrder
+pub mod BitsSizes
+pub mod BitsBills
+pub mod GatherBills
+pub mod OrderingBills
+pub mod BitsCharged
+pub mod HowMany

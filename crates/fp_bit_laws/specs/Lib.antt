@@ -1,0 +1,3 @@
+pub mod Spelled
+pub mod Compared
+pub mod Bills

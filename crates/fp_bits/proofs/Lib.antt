@@ -1,0 +1,4 @@
+pub mod Steps
+pub mod Weights
+pub mod NewDigits
+pub mod Splits
