@@ -6,6 +6,7 @@ use crate::read;
 use relations::Term;
 
 /// Whether a term names the variable with the code c.
+#[inline(always)]
 pub fn is_named(ts: &[Term], c: u64) -> bool
     ensures { result ≡ named c (handed ts.now) }
 {
@@ -33,6 +34,7 @@ impl<'a> Merged<'a> {
     ghost use Rattle.words.specs.Counting.{left};
 
     /// The sum modulo p of the coefficients of the variable with the code c.
+    #[inline(always)]
     pub fn coefficient(&self, c: u64) -> u32
         ensures { result ≡ total self.now.modulus 0 (handed self.now.terms.now) c }
     {
@@ -47,6 +49,7 @@ impl<'a> Merged<'a> {
 
     /// What a term of the variable with the code c counts where the terms `after` follow it: the variable's whole coefficient,
     /// if none of them names it, and else nothing.
+    #[inline(always)]
     pub fn weight(&self, c: u64, after: &[Term]) -> u32
         ensures { result ≡ weight self.now.modulus (handed self.now.terms.now) c (handed after.now) }
     {
@@ -68,6 +71,7 @@ impl<'a> Merged<'a> {
     }
 
     /// How many different variables have a nonzero coefficient.
+    #[inline(always)]
     pub fn len(&self) -> usize
         ensures { result ≡ length (whole self.now.modulus self.now.terms.now) }
     {
@@ -115,6 +119,7 @@ impl<'a> Iterator for Counting<'a> {
 
     ghost remaining = { item_count left };
 
+    #[inline(always)]
     fn next(&mut self) -> Option<(u64, u32)> {
         while let Some((t, after)) = self.rest.split_first() {
             let c = read::code_of(t.variable);

@@ -30,6 +30,7 @@ pub fn counted_at(t: Term) -> u32
 }
 
 /// The terms that stand in `len` pairs of words from the place `start` on: each a code and a coefficient.
+#[inline(always)]
 pub fn stored_terms(words: &[u32], start: usize, len: usize) -> &[[u32; 2]]
     requires { (2 * (start + len) ≤ length words.now) × (start + len ≤ 65536) }
     ensures terms { stored result.now ≡ pairs start len words.now }

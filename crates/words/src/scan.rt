@@ -101,6 +101,7 @@ pub struct Rows<'a> {
 
 impl<'a> Rows<'a> {
     // The terms of a part, whose place and number stand in two words.
+    #[inline(always)]
     fn part(&self, at: usize) -> &'a [[u32; 2]]
         requires { (at + 1 < length self.now.words.now) × (slice_index self.now.words.now at + slice_index self.now.words.now (at + 1) ≤ self.now.top) }
         ensures { stored result.now ≡ part at self.now.words.now self.now.terms.now }
@@ -113,6 +114,7 @@ impl<'a> Rows<'a> {
     }
 
     /// Row i.
+    #[inline(always)]
     pub fn row(&self, i: usize) -> Row<'a>
         requires { i < self.now.count }
         ensures a { stored result.a.now ≡ (row_at i self.now.words.now self.now.terms.now).a }
@@ -137,6 +139,7 @@ pub struct Bounds {
 
 impl Bounds {
     /// Whether the variable with the code c is one of them.
+    #[inline(always)]
     pub fn has(self, c: u32) -> bool
         ensures { result ≡ code_in self.inputs self.witnesses self.places c }
     {
@@ -149,10 +152,11 @@ impl Bounds {
     }
 
     /// Whether stored terms name only those.
+    #[inline(always)]
     pub fn has_all(self, terms: &[[u32; 2]]) -> bool
         ensures { result ≡ all_in self.inputs self.witnesses self.places (stored terms.now) }
     {
-        terms.iter().all(|[c, _]| self.has(*c))
+        terms.iter().rev().all(|[c, _]| self.has(*c))
     }
 
     /// Whether combinations do.
@@ -169,10 +173,23 @@ impl Bounds {
 
     // Of a stored row, where `has_row` of systems asks of a handed one: other terms, and another question.
     /// Whether a row does.
+    #[inline(always)]
     pub fn has_row(self, row: Row) -> bool
         ensures { result ≡ triple_in self.inputs self.witnesses self.places (record { a = stored row.entry.a.now; b = stored row.entry.b.now; c = stored row.entry.c.now }) }
     {
         self.has_all(row.a) && self.has_all(row.b) && self.has_all(row.c)
+    }
+
+    // Part by part, so that a part is looked up where those before it do.
+    /// Whether row i does.
+    #[inline(always)]
+    fn has_row_at(self, rows: &Rows, i: usize) -> bool
+        requires { i < rows.now.count }
+        ensures { result ≡ triple_in self.inputs self.witnesses self.places (row_at i rows.now.words.now rows.now.terms.now) }
+    {
+        self.has_all(rows.part(6 * i))
+            && self.has_all(rows.part(6 * i + 2))
+            && self.has_all(rows.part(6 * i + 4))
     }
 
     /// Whether the first r rows do.
@@ -180,8 +197,8 @@ impl Bounds {
         requires { r ≤ rows.now.count }
         ensures { result ≡ triples_in self.inputs self.witnesses self.places (stored_rows r rows.now.words.now rows.now.terms.now) }
     {
-        for i in 0..r {
-            if !self.has_row(rows.row(i)) {
+        for i in (0..r).rev() {
+            if !self.has_row_at(rows, i) {
                 return false;
             }
         }
