@@ -51,13 +51,14 @@ impl fmt::Display for Refused {
     }
 }
 
-/// The answers of one command, in their order: at most 64.
-// An array with a count, and not a slice of the book: what a command answers is known before it is known whether the book takes it.
+/// The answers of one command, in their order.
+// An array with a count, and not a slice of the book: what a command answers is known before it is known whether the book takes it. It is
+// handed on by value for each command of a tape, so it is no longer than what is served asks for.
 #[derive(Clone, Copy)]
 pub struct Answers {
-    list: [Answer; 64],
+    list: [Answer; 2],
     count: usize,
-    ghost few: { count ≤ 64 },
+    ghost few: { count ≤ 2 },
 }
 
 impl Answers {
@@ -70,7 +71,7 @@ impl Answers {
     {
         let nothing = Answer::Bit(Boolean::Constant(false));
         Answers {
-            list: [nothing; 64],
+            list: [nothing; 2],
             count: 0,
         }
     }
@@ -80,7 +81,7 @@ impl Answers {
         ensures { listed result ≡ answer ∷ [] }
     {
         Answers {
-            list: [answer; 64],
+            list: [answer; 2],
             count: 1,
         }
     }

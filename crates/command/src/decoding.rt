@@ -17,6 +17,7 @@ pub enum Shape {
 
 impl Shape {
     /// How many bytes a command of this shape takes, its opcode counted.
+    #[inline(always)]
     pub fn length(self) -> usize
         ensures { result ≡ length_of self }
     {
@@ -33,6 +34,7 @@ impl Shape {
 
 // A table, which answers none where it has no line, and no conversion of a type.
 /// The shape of the command with an opcode, none where there is no such command.
+#[inline(always)]
 pub fn opcode_shape(opcode: u8) -> Option<Shape>
     ensures { result ≡ shape_of opcode }
 {
@@ -48,6 +50,7 @@ pub fn opcode_shape(opcode: u8) -> Option<Shape>
 }
 
 /// The number of an answer, from its low byte and its high one.
+#[inline(always)]
 fn operand(low: u8, high: u8) -> u32
     ensures { result ≡ low + 256 * high }
 {
@@ -55,6 +58,7 @@ fn operand(low: u8, high: u8) -> u32
 }
 
 /// So many answers, from the one with the number that two bytes give.
+#[inline(always)]
 fn range(low: u8, high: u8, count: u8) -> Range
     ensures { result ≡ ranged (low + 256 * high) count }
 {
@@ -63,6 +67,7 @@ fn range(low: u8, high: u8, count: u8) -> Range
 }
 
 /// The command with an opcode before two bytes: a mode and a value, or the number of an answer.
+#[inline(always)]
 fn short(opcode: u8, x: u8, y: u8) -> Command
     ensures { result ≡ short_of opcode x y }
 {
@@ -79,6 +84,7 @@ fn short(opcode: u8, x: u8, y: u8) -> Command
 }
 
 /// The command with an opcode before a range.
+#[inline(always)]
 fn on_range(opcode: u8, range: Range) -> Command
     ensures { result ≡ range_of opcode range }
 {
@@ -92,6 +98,7 @@ fn on_range(opcode: u8, range: Range) -> Command
 }
 
 /// The command with an opcode before two answers.
+#[inline(always)]
 fn on_two(opcode: u8, a: u32, b: u32) -> Command
     ensures { result ≡ two_of opcode a b }
 {
@@ -110,6 +117,7 @@ fn on_two(opcode: u8, a: u32, b: u32) -> Command
 }
 
 /// The command with an opcode before three answers.
+#[inline(always)]
 fn on_three(opcode: u8, a: u32, b: u32, c: u32) -> Command
     ensures { result ≡ three_of opcode a b c }
 {
@@ -125,6 +133,7 @@ fn on_three(opcode: u8, a: u32, b: u32, c: u32) -> Command
 }
 
 /// The first command of some bytes, none where it is unknown or cut off.
+#[inline(always)]
 pub fn decode(tape: &[u8]) -> Option<Decoded>
     ensures { result ≡ decoded tape.now }
 {

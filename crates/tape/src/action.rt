@@ -6,7 +6,7 @@ use fp_var::{FpCall, FpQuestion, FpStatement};
 /// What a command asks for, its operands looked up: an answer that is there already, a call or a statement on bits, one on many bits, which are
 /// looked up where it is made, or a call, a question or a statement on numbers.
 #[derive(Clone, Copy)]
-pub(crate) enum Action {
+pub enum Action {
     Alias(Answer),
     Bits(BooleanCall),
     Claim(BooleanStatement),

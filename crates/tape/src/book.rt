@@ -103,7 +103,10 @@ impl<'a> Book<'a> {
         if more > self.places() || start > self.places() - more {
             return Err(TapeFault::BookFull);
         }
-        self.answers[start..start + more].copy_from_slice(answers);
+        match answers {
+            [answer] => self.answers[start] = *answer,
+            _ => self.answers[start..start + more].copy_from_slice(answers),
+        }
         self.count = start + more;
         Ok(())
     }

@@ -8,6 +8,7 @@ mod executing;
 mod resolving;
 mod running;
 
+pub use action::Action;
 pub use book::Book;
 pub use circuit::Circuit;
 pub use executing::execute;

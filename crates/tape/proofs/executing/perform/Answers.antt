@@ -3,9 +3,7 @@ use Rattle.relations.specs.Script.{run, whole}
 use Rattle.relations.proofs.Then.{whole_over}
 use Rattle.boolean.specs.Booleans.{call_script, statement_script}
 use Rattle.fp_var.specs.Numbers.{call_script as number_call_script, question_script, statement_script as number_statement_script}
-use Rattle.gates.specs.Walk.{walk_script}
 use Rattle.command.specs.declared.answers.Answer.TheVariants.{Bit, Number}
-use Rattle.command.specs.Answers.{kary_steps, bits_at}
 use Rattle.tape.specs.declared.action.Action.{Action}
 use Rattle.tape.specs.Action.{action_script}
 use Rattle.tape.specs.Book.{held_by}
@@ -24,22 +22,6 @@ returns-in-Claim-clause-does g c =
     let m = g.S.System.meaning c.args.cs.now in
     let n = g.S.System.meaning c.call-in-Claim.new.cs in
     ap (λ (a : Action). whole (run p (action_script p a (held_by c.args.book.now))) m) c.in-Claim.is ∙ whole_over p (statement_script p c.in-Claim.statement) (λ u. []) m n c.call-in-Claim.result c.call-in-Claim.ensures.does ∙ ap (λ r. (r, n)) (sym c.no_answer.ensures)
-
-pub returns-in-Kary-clause-does : goal.returns-in-Kary-clause-does
-returns-in-Kary-clause-does g c =
-    let p = g.F.Field.modulus in
-    let m = g.S.System.meaning c.args.cs.now in
-    ap (λ (a : Action). whole (run p (action_script p a (held_by c.args.book.now))) m) c.in-Kary.is ∙ ap (λ bs. whole (run p (kary_steps c.in-Kary.question p bs)) m) (sym c.bits-bits.ensures) ∙ c.kary.ensures.does
-
-pub returns-in-AtMost-clause-does : goal.returns-in-AtMost-clause-does
-returns-in-AtMost-clause-does g c =
-    let p = g.F.Field.modulus in
-    let m = g.S.System.meaning c.args.cs.now in
-    let n = g.S.System.meaning c.call-in-AtMost.new.cs in
-    let e = c.in-AtMost.element in
-    ap (λ (a : Action). whole (run p (action_script p a (held_by c.args.book.now))) m) c.in-AtMost.is
-    ∙ whole_over p (walk_script p (bits_at (held_by c.args.book.now) c.in-AtMost.range) e) (λ u. []) m n c.call-in-AtMost.result (ap (λ bs. whole (run p (walk_script p bs e)) m) (sym c.bits-bits-in-AtMost.ensures) ∙ c.call-in-AtMost.ensures.does)
-    ∙ ap (λ r. (r, n)) (sym c.no_answer-in-AtMost.ensures)
 
 pub returns-in-Numbers-clause-does : goal.returns-in-Numbers-clause-does
 returns-in-Numbers-clause-does g c =
