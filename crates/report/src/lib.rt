@@ -7,7 +7,7 @@ mod lines;
 mod sheet;
 mod sums;
 
-pub use lines::{push_counts, push_refusals};
+pub use lines::{push_counts, push_refusals, push_verdict};
 pub use sheet::report;
 pub use sums::push_sum;
 

@@ -68,7 +68,7 @@ pub fn push_counts(
 }
 
 /// Appends the last line: `met`, or `unmet` with the number of the first row that is not met.
-pub(crate) fn push_verdict(text: &mut String, verdict: Verdict) -> Result<(), AllocError>
+pub fn push_verdict(text: &mut String, verdict: Verdict) -> Result<(), AllocError>
     ensures { OnOk result (string_bytes text.new ≡ string_bytes text.old ++ verdict_text verdict) }
 {
     push_shown(text, LastLine(verdict))

@@ -20,3 +20,9 @@ pub struct Valued<'a, F: Field> {
     ghost fit: { Fit (beside store values.now) } by { fit_prop (beside store values.now) },
     ghost ordered: { Ordered (beside store values.now) } by { ordered_prop (beside store values.now) },
 }
+
+// A system keeps no element of its field, only its numbers: it goes to another thread, or is shared, whatever the field.
+
+unsafe impl<'a, F: Field> Send for Valued<'a, F> {}
+
+unsafe impl<'a, F: Field> Sync for Valued<'a, F> {}
