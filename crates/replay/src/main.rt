@@ -4,7 +4,6 @@
 #![tactic(auto)]
 
 use field::F101;
-use hex::FromHexError;
 use printing::print;
 use std::alloc::{AllocError, Global};
 use std::{fs, io};
@@ -24,17 +23,31 @@ fn parts(block: &str) -> Option<(&str, &str)> {
     Some((head.strip_prefix("tape ")?, text))
 }
 
+// Not by `hex`, which takes capitals for digits and refuses what is none: a file of blocks is read as it always was.
+/// The number of a hexadecimal digit, 0 where it is none.
+fn digit(byte: u8) -> u8 {
+    match byte {
+        b'0'..=b'9' => byte.wrapping_sub(b'0'),
+        b'a'..=b'f' => byte.wrapping_sub(b'a').wrapping_add(10),
+        _ => 0,
+    }
+}
+
+/// The bytes that pairs of hexadecimal digits stand for; a digit without a second one is left out.
+fn bytes_of(heap: Global, digits: &str) -> Result<Vec<u8>, AllocError> {
+    let mut bytes = Vec::new(heap);
+    for pair in digits.as_bytes().chunks_exact(2) {
+        bytes.push(digit(pair[0]).wrapping_mul(16).wrapping_add(digit(pair[1])))?;
+    }
+    Ok(bytes)
+}
+
 /// Whether a block's tape gives the text below it.
 fn agrees(heap: Global, block: &str) -> Result<bool, AllocError> {
     let Some((digits, text)) = parts(block) else {
         return Ok(false);
     };
-    let tape = match hex::decode(heap, digits) {
-        Ok(tape) => tape,
-        Err(FromHexError::OutOfMemory) => return Err(AllocError),
-        Err(_) => return Ok(false),
-    };
-    match print::<F101>(heap, ROOMS, 4096, 4096, &tape) {
+    match print::<F101>(heap, ROOMS, 4096, 4096, &bytes_of(heap, digits)?) {
         Ok(found) => Ok(found.as_str() == text),
         Err(_) => Ok(false),
     }
@@ -45,7 +58,10 @@ fn replay(rt: &HostRuntime, heap: Global, file: &str) -> io::Result<()> {
     let all = fs::read_to_string(rt, file)?;
     let mut right: u32 = 0;
     let mut wrong: u32 = 0;
-    for block in all.as_str().split_terminator("---\n") {
+    for block in all.as_str().split("---\n") {
+        if block.is_empty() {
+            continue;
+        }
         if agrees(heap, block)? {
             right = right.saturating_add(1);
         } else {
