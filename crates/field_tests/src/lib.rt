@@ -2,4 +2,6 @@
 #![tactic(auto)]
 
 #[cfg(test)]
+mod f101;
+#[cfg(test)]
 mod tests;

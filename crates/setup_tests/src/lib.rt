@@ -4,6 +4,8 @@
 #[cfg(test)]
 mod edges;
 #[cfg(test)]
+mod fields;
+#[cfg(test)]
 mod lent;
 #[cfg(test)]
 mod sequences;
