@@ -1,4 +1,4 @@
-// The field of 101 elements, by numbers that were worked out by hand.
+// The field of 101 elements: signed numbers, sums that wrap, and inverses.
 use field::{F101, Field};
 use std::test::Fail;
 
