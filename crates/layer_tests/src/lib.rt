@@ -1,6 +1,8 @@
 #![tactic(auto)]
 
 #[cfg(test)]
+mod converted;
+#[cfg(test)]
 mod edges;
 #[cfg(test)]
 mod knowing;
