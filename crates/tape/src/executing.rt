@@ -1,7 +1,9 @@
 ghost use Rattle.std.specs.Prelude.{◌≡◌, true};
 ghost use Rattle.relations.specs.Meaning.{Ran, Adds, Leaves};
 ghost use Rattle.relations.specs.Script.{run, whole, over};
-ghost use Rattle.command.specs.Answers.{kary_steps, bits_at, no_answer as nothing};
+ghost use Rattle.boolean.specs.Booleans.{call_script, statement_script};
+ghost use Rattle.fp_var.specs.Numbers.{call_script as number_call_script, question_script, statement_script as number_statement_script};
+ghost use Rattle.command.specs.Answers.{kary_steps, bits_at, no_answer as nothing, one_number as a_number, one_bit as a_bit};
 ghost use Rattle.command.specs.Decide.{short};
 ghost use Rattle.command.specs.Listed.{listed};
 ghost use Rattle.gates.specs.Walk.{walk_script};
@@ -11,20 +13,21 @@ ghost use Rattle.readings.specs.State.{executed};
 ghost use Rattle.readings.specs.Runs.{History, Running, Stepped, Unchanged};
 ghost use Rattle.tape.specs.State.{state_of};
 
-use crate::action::Action;
 use crate::answering::{kary, no_answer, one_bit, one_number};
 use crate::book::Book;
 use crate::circuit::Circuit;
-use crate::resolving::resolve;
+use crate::resolving::perform;
+use boolean::{BooleanCall, BooleanStatement};
 use command::{Answers, Command, Kary, Range, TapeFault, check};
 use field::Field;
+use fp_var::{FpCall, FpQuestion, FpStatement};
 use gates::KaryStatement;
 use relations::{GadgetFault, System, call};
 
 // Two functions, and not two arms of `perform`: a function makes room for its locals when it is entered, and these have 64 bits.
 
 /// A question or the statement on the bits of a range.
-fn on_range<F: Field, S: System<F>>(
+pub(crate) fn on_range<F: Field, S: System<F>>(
     cs: &mut S,
     question: Kary,
     range: Range,
@@ -40,7 +43,7 @@ fn on_range<F: Field, S: System<F>>(
 }
 
 /// The statement that the bits of a range spell at most a number.
-fn at_most<F: Field, S: System<F>>(
+pub(crate) fn at_most<F: Field, S: System<F>>(
     cs: &mut S,
     range: Range,
     element: u64,
@@ -58,28 +61,72 @@ fn at_most<F: Field, S: System<F>>(
     ))
 }
 
-// A match, and no table of functions: what a command asks for is data, as its definition is.
-/// The gadget's call that a command asks for.
-fn perform<F: Field, S: System<F>>(
+// A function for each kind of call, so that its script is said once. They are inlined always: where the answer comes from a function through memory, a
+// command that adds no row takes twice as long.
+
+/// A call on bits.
+#[inline(always)]
+pub(crate) fn call_on_bits<F: Field, S: System<F>>(
     cs: &mut S,
-    action: Action,
-    book: &Book,
+    gadget: BooleanCall,
 ) -> Result<Answers, GadgetFault>
-    requires { short_enough action ≡ true }
-    ensures does { Ran (whole (run F.Field.modulus (action_script F.Field.modulus action (held_by book.now)))) (S.System.meaning cs.old) (over listed result) (S.System.meaning cs.new) }
+    ensures does { Ran (whole (run F.Field.modulus (a_bit (call_script F.Field.modulus gadget)))) (S.System.meaning cs.old) (over listed result) (S.System.meaning cs.new) }
     ensures adds { Adds S.System.meaning S.System.stored S.System.knows cs.old cs.new }
     ensures leaves { Leaves result (S.System.stored cs.old) (S.System.stored cs.new) }
 {
-    match action {
-        Action::Alias(answer) => Ok(Answers::one(answer)),
-        Action::Bits(gadget) => one_bit(call(&gadget, cs)),
-        Action::Claim(statement) => no_answer(call(&statement, cs)),
-        Action::Kary(question, range) => on_range(cs, question, range, book),
-        Action::AtMost(range, element) => at_most(cs, range, element, book),
-        Action::Numbers(gadget) => one_number(call(&gadget, cs)),
-        Action::Question(question) => one_bit(call(&question, cs)),
-        Action::NumberClaim(statement) => no_answer(call(&statement, cs)),
-    }
+    one_bit(call(&gadget, cs))
+}
+
+/// A statement on bits.
+#[inline(always)]
+pub(crate) fn state_of_bits<F: Field, S: System<F>>(
+    cs: &mut S,
+    statement: BooleanStatement,
+) -> Result<Answers, GadgetFault>
+    ensures does { Ran (whole (run F.Field.modulus (nothing (statement_script F.Field.modulus statement)))) (S.System.meaning cs.old) (over listed result) (S.System.meaning cs.new) }
+    ensures adds { Adds S.System.meaning S.System.stored S.System.knows cs.old cs.new }
+    ensures leaves { Leaves result (S.System.stored cs.old) (S.System.stored cs.new) }
+{
+    no_answer(call(&statement, cs))
+}
+
+/// A call on numbers.
+#[inline(always)]
+pub(crate) fn call_on_numbers<F: Field, S: System<F>>(
+    cs: &mut S,
+    gadget: FpCall,
+) -> Result<Answers, GadgetFault>
+    ensures does { Ran (whole (run F.Field.modulus (a_number (number_call_script F.Field.modulus gadget)))) (S.System.meaning cs.old) (over listed result) (S.System.meaning cs.new) }
+    ensures adds { Adds S.System.meaning S.System.stored S.System.knows cs.old cs.new }
+    ensures leaves { Leaves result (S.System.stored cs.old) (S.System.stored cs.new) }
+{
+    one_number(call(&gadget, cs))
+}
+
+/// A question on numbers.
+#[inline(always)]
+pub(crate) fn ask_of_numbers<F: Field, S: System<F>>(
+    cs: &mut S,
+    question: FpQuestion,
+) -> Result<Answers, GadgetFault>
+    ensures does { Ran (whole (run F.Field.modulus (a_bit (question_script F.Field.modulus question)))) (S.System.meaning cs.old) (over listed result) (S.System.meaning cs.new) }
+    ensures adds { Adds S.System.meaning S.System.stored S.System.knows cs.old cs.new }
+    ensures leaves { Leaves result (S.System.stored cs.old) (S.System.stored cs.new) }
+{
+    one_bit(call(&question, cs))
+}
+
+/// A statement on numbers.
+#[inline(always)]
+pub(crate) fn state_of_numbers<F: Field, S: System<F>>(
+    cs: &mut S,
+    statement: FpStatement,
+) -> Result<Answers, GadgetFault>
+    ensures does { Ran (whole (run F.Field.modulus (nothing (number_statement_script F.Field.modulus statement)))) (S.System.meaning cs.old) (over listed result) (S.System.meaning cs.new) }
+    ensures adds { Adds S.System.meaning S.System.stored S.System.knows cs.old cs.new }
+    ensures leaves { Leaves result (S.System.stored cs.old) (S.System.stored cs.new) }
+{
+    no_answer(call(&statement, cs))
 }
 
 /// One command: accepted or refused as the rules decide. A refusal leaves the system, its words and the book as they were; and where a
@@ -96,8 +143,7 @@ pub fn execute<F: Field, S: System<F>>(
 {
     let places = circuit.book.places();
     check(command, &circuit.book, places)?;
-    let action = resolve::<F>(command, &circuit.book);
-    let answers = perform(&mut circuit.system, action, &circuit.book)?;
+    let answers = perform(&mut circuit.system, command, &circuit.book)?;
     // No refusal comes from here: the check has found places for all answers.
     circuit.book.extend(answers.as_slice())
 }

@@ -1,11 +1,9 @@
 use Rattle.std.proofs.Common.{subst, ◌≡◌, Ok, Err, Result, sym, ap, ◌∙◌}
 use Rattle.std.proofs.lemmas.Result.{err_from_is_err_and}
-use Rattle.relations.specs.Script.{run, whole, over}
+use Rattle.relations.specs.Script.{over}
 use Rattle.command.specs.declared.fault.TapeFault.{TapeFault}
-use Rattle.tape.specs.declared.action.Action.{Action}
 use Rattle.command.specs.Decide.{checked}
 use Rattle.command.specs.Answers.{kinds}
-use Rattle.tape.specs.Action.{action_script, short_enough}
 use Rattle.tape.specs.Book.{held_by, places_of}
 use Rattle.tape.specs.State.{state_of}
 use Rattle.readings.specs.State.{state, executed}
@@ -38,7 +36,7 @@ returns-in_err-answers-clause-does g c =
     let n = g.S.System.meaning c.perform.new.cs in
     let ok : ◌≡◌ {A = Result (Unit {0}) TapeFault} (Ok tt) (over (λ _. tt) (checked c.args.command (kinds (held_by b)) (places_of b))) =
     c.in_ok-check.ensures ∙ ap (λ k. over (λ _. tt) (checked c.args.command (kinds (held_by b)) k)) c.places-places.ensures in
-    let ran = ap (λ (a : Action). whole (run p (action_script p a (held_by b))) m) (sym c.resolve-action.ensures) ∙ c.in_err-answers.ensures.does in
+    let ran = c.in_err-answers.ensures.does in
     let q = err_from_is_err_and c.from_residual-in_err-answers.result c.from_residual-in_err-answers.ensures.1 in
     refused p c.args.command m n (held_by b) c.in_err-answers.field-0.0 (places_of b) ok ran ∙ ap (λ r. (r, state n (held_by b) (places_of b))) (sym (q.1 ∙ ap Err q.2))
 
@@ -59,7 +57,7 @@ returns g c =
     let t = state_of g.S.System.meaning (record { system = c.perform.new.cs; book = c.extend.new.self }) in
     let ok : ◌≡◌ {A = Result (Unit {0}) TapeFault} (Ok tt) (over (λ _. tt) (checked c.args.command (kinds (held_by b)) (places_of b))) =
     c.in_ok-check.ensures ∙ ap (λ k. over (λ _. tt) (checked c.args.command (kinds (held_by b)) k)) c.places-places.ensures in
-    let ran = ap (λ (a : Action). whole (run p (action_script p a (held_by b))) m) (sym c.resolve-action.ensures) ∙ c.in_ok-answers.ensures.does in
+    let ran = c.in_ok-answers.ensures.does in
     let room = places_left p l.prime l.odd c.args.command m n (held_by b) os (places_of b) ok ran in
     let e = extended (held_by b) os c.as_slice.result.now (held_by c.extend.new.self) (places_of b) c.extend.result c.as_slice.ensures room c.extend.ensures.extended c.extend.ensures.holds in
     let does : executed p c.args.command s ≡ (c.extend.result, t) =
@@ -77,4 +75,4 @@ perform-requires g c =
     let b = c.args.circuit.now.book in
     let ok : ◌≡◌ {A = Result (Unit {0}) TapeFault} (Ok tt) (over (λ _. tt) (checked c.args.command (kinds (held_by b)) (places_of b))) =
     c.in_ok-check.ensures ∙ ap (λ k. over (λ _. tt) (checked c.args.command (kinds (held_by b)) k)) c.places-places.ensures in
-    ap short_enough c.resolve-action.ensures ∙ ranges_short g.F.Field.modulus c.args.command (held_by b) (places_of b) ok
+    ranges_short g.F.Field.modulus c.args.command (held_by b) (places_of b) ok
