@@ -125,7 +125,8 @@ const NOTHING: Rooms = Rooms {
     rows: 0,
 };
 
-/// A row by code over G on a system over F that it is lent, or none where the primes differ: the system is taken out of its place, and put back.
+/// A row by code over G on a system over F that it is lent: the system is taken out of its place, and put back. Where there is no answer, as with other
+/// primes, the system is as it was.
 fn lent_row<'a, F: Field, G: Field>(
     cs: &mut Valued<'a, F>,
     a: &[Term],

@@ -22,6 +22,8 @@ impl<F: Field, G: Field, S: System<F>> Converted<F, G, S> {
     pub fn new(below: S) -> Result<Converted<F, G, S>, S>
         ensures decides { is_ok result ≡ (F.Field.modulus == G.Field.modulus) }
         ensures means { MatchResult result (λ o. ⟦<Converted<F, G, S> as System<G>>⟧.meaning o ≡ S.System.meaning below) (λ s. s ≡ below) }
+        ensures stores { MatchResult result (λ o. ⟦<Converted<F, G, S> as System<G>>⟧.stored o ≡ S.System.stored below) (λ s. s ≡ below) }
+        ensures knowing { MatchResult result (λ o. S.System.knows below → ⟦<Converted<F, G, S> as System<G>>⟧.knows o) (λ s. s ≡ below) }
         ensures holds { MatchResult result (λ o. o.below ≡ below) (λ s. s ≡ below) }
     {
         if F::characteristic() != G::characteristic() {

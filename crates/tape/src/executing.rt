@@ -7,7 +7,6 @@ ghost use Rattle.command.specs.Answers.{kary_steps, bits_at, no_answer as nothin
 ghost use Rattle.command.specs.Decide.{short};
 ghost use Rattle.command.specs.Listed.{listed};
 ghost use Rattle.gates.specs.Walk.{walk_script};
-ghost use Rattle.tape.specs.Action.{short_enough, action_script};
 ghost use Rattle.tape.specs.Book.{held_by};
 ghost use Rattle.readings.specs.State.{executed};
 ghost use Rattle.readings.specs.Runs.{History, Running, Stepped, Unchanged};
@@ -24,7 +23,7 @@ use fp_var::{FpCall, FpQuestion, FpStatement};
 use gates::KaryStatement;
 use relations::{GadgetFault, System, call};
 
-// Two functions, and not two arms of `perform`: a function makes room for its locals when it is entered, and these have 64 bits.
+// Two functions, and not two arms of `perform`, which cleared the 64 bits of both at every command.
 
 /// A question or the statement on the bits of a range.
 pub(crate) fn on_range<F: Field, S: System<F>>(
@@ -62,7 +61,7 @@ pub(crate) fn at_most<F: Field, S: System<F>>(
 }
 
 // A function for each kind of call, so that its script is said once. They are inlined always: where the answer comes from a function through memory, a
-// command that adds no row takes twice as long.
+// command that adds no row takes up to twice and a half as long.
 
 /// A call on bits.
 #[inline(always)]

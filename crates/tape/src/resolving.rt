@@ -74,8 +74,8 @@ fn number_claim(claim: Claim, book: &Book, a: u32, b: u32, c: u32) -> FpStatemen
     }
 }
 
-// A match, and no table of functions: what a command asks for is data, as its definition is. Each arm makes its call by itself. Were the arms to give an
-// `Action` and another match to make its call, a command that adds no row would take up to a half more time.
+// A match, and no table of functions, as its definition is one. Each arm makes its call by itself: were the arms to give an `Action` and another match to
+// make its call, a command that adds no row would take up to a half more time.
 /// The gadget's call that a command asks for, its operands looked up in the book.
 #[inline(always)]
 pub(crate) fn perform<F: Field, S: System<F>>(
