@@ -1,5 +1,5 @@
 -- Reading lists from their ends, and cutting them.
-use Rattle.std.proofs.Common.{◌≡◌, ℕ, zero, suc, ◌+◌, ◌-◌, ◌*◌, ◌/◌, ◌%◌, ◌<◌, ◌≤◌, Bool, true, false, cond, ◌&&◌, eqb, ltb, List, [], ◌∷◌, ◌++◌, map, get_or, take, sym, refl, ap, ◌∙◌, subst, inl, inr, eq-or-lt_of_le, arith, ltb-true, lt-ltb, Option, None, Some, MatchOption}
+use Rattle.std.proofs.Common.{◌≡◌, ℕ, zero, suc, ◌+◌, ◌-◌, ◌*◌, ◌/◌, ◌%◌, ◌<◌, ◌≤◌, Bool, true, false, cond, ◌&&◌, eqb, ltb, List, [], ◌∷◌, ◌++◌, map, get_or, take, sym, refl, ap, ◌∙◌, subst, inl, inr, eq-or-lt_of_le, arith, ltb-true, lt-ltb, add-one, Option, None, Some, MatchOption}
 use Rattle.std.proofs.Math.Bool.{and-true, and-false, and_assoc}
 use Rattle.std.proofs.lemmas.Bool.{and_parts}
 use Rattle.std.proofs.lemmas.List.{take-append-le, take_all}
@@ -158,6 +158,20 @@ row_each ni nw ne (suc n) j rs ws h e =
     ]
 
 -- the first rows, from the first on
+pub rows_more : (ni nw ne i : ℕ) (rs ws : List ℕ) (t : Triple) → t ≡ row_at i rs ws → true ≡ triple_in ni nw ne t → triples_in ni nw ne (rows i rs ws) ≡ true → triples_in ni nw ne (rows (i + 1) rs ws) ≡ true
+rows_more ni nw ne i rs ws t e h inv =
+    ap (λ (x : ℕ). triples_in ni nw ne (rows x rs ws)) (add-one i)
+    ∙ rows_last ni nw ne i rs ws
+    ∙ (λ j. inv j && (ap (triple_in ni nw ne) (sym e) ∙ sym h) j)
+
+pub rows_stop : (ni nw ne i r : ℕ) (rs ws : List ℕ) (t : Triple) → i < r → t ≡ row_at i rs ws → false ≡ triple_in ni nw ne t → false ≡ triples_in ni nw ne (rows r rs ws)
+rows_stop ni nw ne i r rs ws t h e f = go (triples_in ni nw ne (rows r rs ws)) (λ q. f ∙ ap (triple_in ni nw ne) e ∙ row_each ni nw ne r i rs ws h q)
+  where
+    go : (b : Bool) → (b ≡ true → false ≡ true) → false ≡ b
+    go false g = refl
+    go true g = g refl
+
+-- and from the last on
 pub rows_kept : (ni nw ne i : ℕ) (rs ws : List ℕ) (t : Triple) (b : Bool) → 0 < i → t ≡ row_at (i - 1) rs ws → true ≡ triple_in ni nw ne t → triples_in ni nw ne (rows i rs ws) ≡ b → triples_in ni nw ne (rows (i - 1) rs ws) ≡ b
 rows_kept ni nw ne i rs ws t b h e f inv =
     let q : suc (i - 1) ≡ i = omega arith in
