@@ -53,7 +53,7 @@ impl fmt::Display for Refused {
 
 /// The answers of one command, in their order.
 // An array with a count, and not a slice of the book: what a command answers is known before it is known whether the book takes it. It is
-// handed on by value for each command of a tape, so it is no longer than what is served asks for.
+// handed on by value for each command of a tape, so it is short: no served command fills more than one.
 #[derive(Clone, Copy)]
 pub struct Answers {
     list: [Answer; 2],

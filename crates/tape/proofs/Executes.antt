@@ -3,7 +3,8 @@ use Rattle.std.specs.Result.{is_ok}
 use Rattle.std.proofs.Common.{◌≡◌, ℕ, ◌+◌, ◌%◌, ◌≤◌, List, ◌++◌, length, Ok, Err, Result, sym, refl, ap, ◌∙◌, Bool, true, cond, leb, le-leb, arith}
 use Rattle.relations.specs.declared.fault.GadgetFault.{GadgetFault}
 use Rattle.relations.specs.Meaning.{Meaning}
-use Rattle.relations.specs.Script.{Script, run, restored, whole, over}
+use Rattle.relations.specs.Script.{Script, run, restored, whole, over, then, answer}
+use Rattle.relations.proofs.Then.{whole_over}
 use Rattle.command.specs.declared.commands.Kind.{Kind}
 use Rattle.command.specs.declared.commands.Command.{Command}
 use Rattle.command.specs.declared.answers.Answer.{Answer}
@@ -29,6 +30,10 @@ use Rattle.tape.proofs.Primes.{above_two}
 pub passed : (r : Result (List Kind) TapeFault) → ◌≡◌ {A = Result (Unit {0}) TapeFault} (Ok tt) (over (λ _. tt) r) → (ks : List Kind) × (r ≡ Ok ks)
 passed (Ok ks) e = (ks, refl)
 passed (Err f) e = cc e
+
+-- a gadget's call, its answer put into a list
+pub answered : {A : Type 0} (p : ℕ) (s : Script A) (f : A → List Answer) (m n : Meaning) (r : Result A GadgetFault) (q : Result (List Answer) GadgetFault) → whole (run p s) m ≡ (r, n) → q ≡ over f r → whole (run p (then s (λ x. answer (f x)))) m ≡ (q, n)
+answered p s f m n r q e h = whole_over p s f m n r e ∙ ap (λ x. (x, n)) (sym h)
 
 -- the steps of what a command asks for are the command's
 pub resolved : (p : ℕ) (c : Command) (book : List Answer) → action_script p (action p c book) book ≡ command_script p c book

@@ -103,6 +103,7 @@ impl<'a> Book<'a> {
         if more > self.places() || start > self.places() - more {
             return Err(TapeFault::BookFull);
         }
+        // A list of one, which most commands give, is written without a copy of a length that is found out as it runs.
         match answers {
             [answer] => self.answers[start] = *answer,
             _ => self.answers[start..start + more].copy_from_slice(answers),

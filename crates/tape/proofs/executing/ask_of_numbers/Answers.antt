@@ -1,12 +1,8 @@
-use Rattle.std.proofs.Common.{◌∷◌, [], sym, ap, ◌∙◌}
-use Rattle.relations.proofs.Then.{whole_over}
+use Rattle.std.proofs.Common.{◌∷◌, []}
 use Rattle.fp_var.specs.Numbers.{question_script}
 use Rattle.command.specs.declared.answers.Answer.TheVariants.{Bit}
+use Rattle.tape.proofs.Executes.{answered}
 use Rattle.tape.proofs.executing.ask_of_numbers.Goals as goal
 
 pub returns-clause-does : goal.returns-clause-does
-returns-clause-does g c =
-    let p = g.F.Field.modulus in
-    let m = g.S.System.meaning c.args.cs.now in
-    let n = g.S.System.meaning c.call.new.cs in
-    whole_over p (question_script p c.args.question) (λ b. Bit b ∷ []) m n c.call.result c.call.ensures.does ∙ ap (λ r. (r, n)) (sym c.one_bit.ensures)
+returns-clause-does g c = answered g.F.Field.modulus (question_script g.F.Field.modulus c.args.question) (λ b. Bit b ∷ []) _ _ _ _ c.call.ensures.does c.one_bit.ensures

@@ -1,12 +1,8 @@
-use Rattle.std.proofs.Common.{◌∷◌, [], sym, ap, ◌∙◌}
-use Rattle.relations.proofs.Then.{whole_over}
+use Rattle.std.proofs.Common.{◌∷◌, []}
 use Rattle.fp_var.specs.Numbers.{call_script}
 use Rattle.command.specs.declared.answers.Answer.TheVariants.{Number}
+use Rattle.tape.proofs.Executes.{answered}
 use Rattle.tape.proofs.executing.call_on_numbers.Goals as goal
 
 pub returns-clause-does : goal.returns-clause-does
-returns-clause-does g c =
-    let p = g.F.Field.modulus in
-    let m = g.S.System.meaning c.args.cs.now in
-    let n = g.S.System.meaning c.call.new.cs in
-    whole_over p (call_script p c.args.gadget) (λ x. Number x ∷ []) m n c.call.result c.call.ensures.does ∙ ap (λ r. (r, n)) (sym c.one_number.ensures)
+returns-clause-does g c = answered g.F.Field.modulus (call_script g.F.Field.modulus c.args.gadget) (λ x. Number x ∷ []) _ _ _ _ c.call.ensures.does c.one_number.ensures
